@@ -14,7 +14,7 @@ _SHARED = (
     "fx_outside::host::Host",
     "fx_outside::sink::Sink",
     "fx_outside::gate::Gate",
-    "fx_command.Left.IsIdle",
+    "fx_command.Left.IsUnasked",
 )
 _RUN = (
     "fx_run_command.Rows.RunRow",

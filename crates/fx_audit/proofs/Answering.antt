@@ -14,7 +14,7 @@ use Rattle.fx_spec.proofs.Orders.{state-front}
 use Rattle.fx_machine.specs.declared.entry.Entry.{Entry}
 use Rattle.fx_report.specs.declared.printed.PrintedEntry.{PrintedEntry}
 use Rattle.fx_report.specs.Entries.{commands_or_none, entry, entries_from, entries_of}
-use Rattle.fx_board.specs.Board.{IsEntry, settled, turn_of}
+use Rattle.fx_board.specs.Board.{IsEntry, settled, entry_turn}
 use Rattle.fx_board.specs.Log.{Log}
 use Rattle.fx_replay_log.specs.Orders.{logged}
 use Rattle.fx_audit.specs.Verdicts.{turn_told, order_told, IsAnswered, AllAnswered, IsFirstUnanswered}
@@ -34,7 +34,7 @@ entry_is base o i turn t os e planned printed ended =
 
 pub told_is : (log : Log) (i : ℕ) (e : Entry) (told : PrintedEntry) → IsEntry log i e → slice_get log.order i ≡ Some (turn_told told) → entry log.base log.order i (turn_told told) ≡ record { shell = told.shell; txn = told.txn; outputs = e.outputs; end = e.end }
 told_is log i e told is stands =
-    let same : turn_of e ≡ turn_told told = same_Some (turn_of e) (turn_told told) (sym is.turn ∙ stands) in
+    let same : entry_turn e ≡ turn_told told = same_Some (entry_turn e) (turn_told told) (sym is.turn ∙ stands) in
     entry_is log.base log.order i (turn_told told) is.txn e.outputs e.end (ap (txn_of log.base.plan) (sym same) ∙ is.planned) is.outputs is.end
 
 -- an entry of an order is that of each order that begins so

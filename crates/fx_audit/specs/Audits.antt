@@ -6,7 +6,7 @@ use Rattle.fx_machine.specs.declared.retry.Retry.{Retry}
 use Rattle.fx_machine.specs.Tried.{retry_tree}
 use Rattle.fx_report.specs.declared.printed.PrintedEntry.{PrintedEntry}
 use Rattle.fx_report.specs.Entries.{entries_of}
-use Rattle.fx_read_report.specs.Form.{IsReportOf, IsFirstBadLine}
+use Rattle.fx_read_report.specs.Form.{IsReportOf, IsFirstWrongLine}
 use Rattle.fx_audit.specs.declared.verdict.Verdict.{Verdict}
 use Rattle.fx_audit.specs.declared.verdict.Verdict.TheVariants as verdict
 use Rattle.fx_audit.specs.Verdicts.{IsVerdict}
@@ -20,7 +20,7 @@ pub record IsReadAs (base : BaseTree) (bytes : List ℕ) (v : Verdict) : Type 0 
 
 abbrev pub IsVerdictOn : BaseTree → List ℕ → Verdict → Type 0
 IsVerdictOn base bytes verdict.Yes = IsReadAs base bytes verdict.Yes
-IsVerdictOn base bytes (verdict.BadLine n) = IsFirstBadLine bytes n
+IsVerdictOn base bytes (verdict.BadLine n) = IsFirstWrongLine bytes n
 IsVerdictOn base bytes (verdict.Order i) = IsReadAs base bytes (verdict.Order i)
 IsVerdictOn base bytes (verdict.Answer i) = IsReadAs base bytes (verdict.Answer i)
 IsVerdictOn base bytes (verdict.Missing shell txn) = IsReadAs base bytes (verdict.Missing shell txn)

@@ -34,7 +34,7 @@ use Rattle.fx_machine.specs.Machine.{next_number}
 use Rattle.fx_machine.specs.Passes.{AreTrueReads}
 use Rattle.fx_machine.proofs.Legal.{fewer_settled}
 use Rattle.fx_machine.proofs.Stays.{stays_through}
-use Rattle.fx_board.specs.Board.{IsEntry, IsBoard, IsIndex, IsFreshReads, IsNamed, log_of, turn_of, settled}
+use Rattle.fx_board.specs.Board.{IsEntry, IsBoard, IsIndex, IsFreshReads, IsNamed, log_of, entry_turn, settled}
 use Rattle.fx_board.specs.Growing.{entry_of, nodes_by, StaysWhole}
 use Rattle.fx_board.specs.Log.{Log}
 use Rattle.fx_board.specs.Index.{Index, IsNoted, least_stale}
@@ -128,10 +128,10 @@ module _ (base : BaseTree) (o : List Turn) (a : Attempt) (explained : IsExplaine
 -- ---- the log with one entry more
 
 abbrev order_of : List Entry → List Turn
-order_of entries = map turn_of entries
+order_of entries = map entry_turn entries
 
-pub order_more : (entries : List Entry) (e : Entry) → order_of (entries ++ e ∷ []) ≡ order_of entries ++ turn_of e ∷ []
-order_more entries e = map-append turn_of entries (e ∷ [])
+pub order_more : (entries : List Entry) (e : Entry) → order_of (entries ++ e ∷ []) ≡ order_of entries ++ entry_turn e ∷ []
+order_more entries e = map-append entry_turn entries (e ∷ [])
 
 last_at : {X : Type 0} (xs : List X) (x : X) → slice_get (xs ++ x ∷ []) (length xs) ≡ Some x
 last_at [] x = refl
@@ -146,11 +146,11 @@ at_or_last (z ∷ xs) x y (suc i) e = elim (at_or_last xs x y i e) [ inl f ↦ i
 -- what was said of an entry goes on to hold
 entry_stays : (log : Log) (i : ℕ) (e : Entry) (shell txn : ℕ) → IsEntry log i e → IsEntry (settled log shell txn) i e
 entry_stays log i e shell txn entry =
-    let lt : i < length log.order = slice_get_within log.order i (turn_of e) entry.turn in
+    let lt : i < length log.order = slice_get_within log.order i (entry_turn e) entry.turn in
     let here : state log.base log.order i ≡ state log.base (log.order ++ (shell, txn) ∷ []) i = sym (state-front log.base log.order ((shell, txn) ∷ []) i (omega (arith, lt))) in
     let there : state log.base log.order (suc i) ≡ state log.base (log.order ++ (shell, txn) ∷ []) (suc i) = sym (state-front log.base log.order ((shell, txn) ∷ []) (suc i) (omega (arith, lt))) in
     record {
-      turn = get_front log.order ((shell, txn) ∷ []) i (turn_of e) entry.turn;
+      turn = get_front log.order ((shell, txn) ∷ []) i (entry_turn e) entry.turn;
       txn = entry.txn;
       planned = entry.planned;
       outputs = subst (λ (n : Nodes). outputs log.base.description entry.txn (get n) ≡ e.outputs) here entry.outputs;
@@ -192,7 +192,7 @@ settles base entries nodes index noted a board notes explained next agrees up =
       each = λ i e at. subst (λ (l : Log). IsEntry l i e) log (elim (at_or_last entries (entry_of a) e i at) [
         | inl old ↦ entry_stays (log_of base entries) i e a.shell a.txn (board.each i e old)
         | inr new ↦
-            let place : length (order_of entries) ≡ i = length-map entries turn_of ∙ sym new.0 in
+            let place : length (order_of entries) ≡ i = length-map entries entry_turn ∙ sym new.0 in
             subst (λ (e : Entry). IsEntry (settled (log_of base entries) a.shell a.txn) i e) new.1
             (subst (λ i. IsEntry (settled (log_of base entries) a.shell a.txn) i (entry_of a)) place
             (entry_new (base_tree base) (order_of entries) a explained next board.log.loaded agrees up))
@@ -237,7 +237,7 @@ module _ (base : Base) (entries : List Entry) (nodes : Nodes) (index : Index) (b
           let agrees : Agrees a.reads (get (state (base_tree base) (order_of entries) (length (order_of entries)))) = agrees_now (base_tree base) (order_of entries) a.reads true_ fresh in
           record {
             whole = subst (λ (n : Nodes). IsWhole (over (get n) a.changes)) (sym board.after) (next_whole (base_tree base) (order_of entries) a explained next board.log.loaded agrees up);
-            board = λ noted notes. settles base entries nodes index noted a board (subst (IsNoted index noted (changed_paths a.changes)) (sym (length-map entries turn_of)) notes) explained next agrees up;
+            board = λ noted notes. settles base entries nodes index noted a board (subst (IsNoted index noted (changed_paths a.changes)) (sym (length-map entries entry_turn)) notes) explained next agrees up;
           }
 
   pub fresh_now : least_stale index a.reads ≡ None → IsFreshReads log.base log.order a.reads

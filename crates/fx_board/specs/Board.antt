@@ -21,11 +21,11 @@ use Rattle.fx_board.specs.declared.board.Settle.TheVariants as settle
 use Rattle.fx_board.specs.Index.{Index, last_in}
 use Rattle.fx_board.specs.Log.{Log}
 
-abbrev pub turn_of : Entry → Turn
-turn_of e = (e.shell, e.txn)
+abbrev pub entry_turn : Entry → Turn
+entry_turn e = (e.shell, e.txn)
 
 abbrev pub log_of : Base → List Entry → Log
-log_of base entries = record { base = base_tree base; order = map turn_of entries }
+log_of base entries = record { base = base_tree base; order = map entry_turn entries }
 
 -- the state before entry `i`, and after all
 abbrev pub state_at : Log → ℕ → Nodes
@@ -36,9 +36,9 @@ last_state log = state_at log (length log.order)
 
 -- the entry is its transaction, run whole on the state before it
 pub record IsEntry (log : Log) (i : ℕ) (e : Entry) : Type 0 where
-  pub turn : slice_get log.order i ≡ Some (turn_of e)
+  pub turn : slice_get log.order i ≡ Some (entry_turn e)
   pub txn : List CommandTree
-  pub planned : txn_of log.base.plan (turn_of e) ≡ Some txn
+  pub planned : txn_of log.base.plan (entry_turn e) ≡ Some txn
   pub outputs : outputs log.base.description txn (get (state_at log i)) ≡ e.outputs
   pub end : end log.base.description txn (get (state_at log i)) ≡ e.end
   pub changed : (path : List (List ℕ)) → Contains e.changed path ↔ Changes log.base log.order i path

@@ -9,7 +9,7 @@ pub record IsSame (host host' : HostView) (sink sink' : SinkView) : Type 0 where
   pub unprinted : sink' ≡ sink
 
 -- nothing was asked of host and sink
-pub record IsIdle (host host' : HostView) (sink sink' : SinkView) : Type 0 where
+pub record IsUnasked (host host' : HostView) (sink sink' : SinkView) : Type 0 where
   pub unasked : host' ≡ host
   pub unprinted : sink' ≡ sink
 

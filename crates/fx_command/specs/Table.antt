@@ -58,8 +58,8 @@ pub record IsComing {A : Type 0} (m : Making A) (t : Tree) (end : A) (there : Bo
   pub free : IsReady t m.out there
 
 -- the folder of a filestore is left at OUT, and an output that goes with it is printed
-abbrev pub leaving : List ℕ → (Tree → Nodes → List ℕ → Type 0) → Making (Nodes × List ℕ)
-leaving out comes = record {
+abbrev pub leaving_folder : List ℕ → (Tree → Nodes → List ℕ → Type 0) → Making (Nodes × List ℕ)
+leaving_folder out comes = record {
   out = out;
   comes = λ end t. comes t end.0 end.1;
   stands = λ end t t'. IsSaved t t' (parts out) end.0;

@@ -29,7 +29,7 @@ use Rattle.fx_board.specs.Log.{Log}
 use Rattle.fx_sched.specs.Moves.{AllRead}
 use Rattle.fx_sched.specs.Shells.{looks_in}
 use Rattle.fx_sched.proofs.Looks.{unlooked, comes_next, has_seen_all, fresh_at, named_at}
-use Rattle.fx_diary.specs.Diaries.{Does, Diary}
+use Rattle.fx_diary.specs.Diaries.{DoesInShell, Diary}
 use Rattle.fx_diary.specs.Positions.{InTurn}
 use Rattle.fx_diary.proofs.Growing.{by_event, by_other, by_own}
 use Rattle.fx_diary.proofs.Positions.{in_turn_ends, in_turn_by}
@@ -139,7 +139,7 @@ module _ (base : BaseTree) (o : List Turn) (shell number first last : ℕ) (with
         let next : IsNext base (shell, number) front r.0 = foretold front r.0 r.1.0 (nodes_in rest) (omega arith) (ap nodes_in (sym whole) ∙ map-append (λ (r : Path × Read). (r.0, r.1.0)) front (r ∷ rest)) in
         let size : length (take r.1.1 o) ≡ r.1.1 = length-take-le r.1.1 o (omega (arith, high, within)) in
         let by_now : EndBy front r.1.1 = λ path node position e. (let h = by path node position e in omega (arith, h, up)) in
-        let does : Does base (take r.1.1 o) shell (looks_in front) (event.Look shell r.0 r.1.1) (looks_in (front ++ r ∷ [])) = (
+        let does : DoesInShell base (take r.1.1 o) shell (looks_in front) (event.Look shell r.0 r.1.1) (looks_in (front ++ r ∷ [])) = (
           refl,
           record {
             txn = t;
@@ -185,6 +185,6 @@ module _ (base : BaseTree) (o : List Turn) (shell number first last : ℕ) (with
       pub restarts : (entry : ℕ) (path : Path) → IsNamed (record { base = base; order = take last o }) reads entry path → Diary base o shell last [] (retries ++ record { shell = shell; txn = number; entry = entry; path = path } ∷ [])
       restarts entry path named =
           let log : Log = record { base = base; order = take last o } in
-          let does : Does base (take last o) shell (looks_in reads) (event.Conflict shell entry path) [] = (refl, record { txn = t; next = next_at last on (omega arith); ready = ready; named = named_at log reads entry path named; after = refl }) in
+          let does : DoesInShell base (take last o) shell (looks_in reads) (event.Conflict shell entry path) [] = (refl, record { txn = t; next = next_at last on (omega arith); ready = ready; named = named_at log reads entry path named; after = refl }) in
           subst (λ n. Diary base o shell last [] (retries ++ record { shell = shell; txn = n; entry = entry; path = path } ∷ [])) (quiet last on (omega arith))
           (subst (λ more. Diary base o shell last [] (retries ++ more)) (one_conflict shell (next_number (take last o) shell) entry path) (by_event base o shell last (looks_in reads) [] retries (event.Conflict shell entry path) looked does))

@@ -13,7 +13,7 @@ use Rattle.fx_machine.specs.declared.event.Event.TheVariants as event
 use Rattle.fx_machine.specs.declared.retry.Retry.{Retry}
 use Rattle.fx_machine.specs.Machine.{Look, next_number}
 use Rattle.fx_machine.specs.Tried.{conflicts_of}
-use Rattle.fx_diary.specs.Diaries.{Does, DoesAll, MaySettle, Diary, retries_at, retries_to}
+use Rattle.fx_diary.specs.Diaries.{DoesInShell, DoesAll, MaySettle, Diary, retries_at, retries_to}
 use Rattle.fx_diary.specs.Laws.{EmptyDiary, GrowsByEvent, GrowsByOther, GrowsByOwn, GrowsBySeen, DiariesGrow}
 
 -- ---- a function with another value at one number
@@ -57,8 +57,8 @@ conflicts_more base o shell n looks looks' (event.Conflict k entry path ∷ even
 
 -- ---- the steps
 
-does_more : (base : BaseTree) (o : List Turn) (shell : ℕ) (a b c : List Look) (events : List Event) (e : Event) → DoesAll base o shell a events b → Does base o shell b e c → DoesAll base o shell a (events ++ e ∷ []) c
-does_more base o shell a b c [] e same does = (c, subst (λ l. Does base o shell l e c) (sym same) does, refl)
+does_more : (base : BaseTree) (o : List Turn) (shell : ℕ) (a b c : List Look) (events : List Event) (e : Event) → DoesAll base o shell a events b → DoesInShell base o shell b e c → DoesAll base o shell a (events ++ e ∷ []) c
+does_more base o shell a b c [] e same does = (c, subst (λ l. DoesInShell base o shell l e c) (sym same) does, refl)
 does_more base o shell a b c (x ∷ events) e (between, first, rest) does = (between, first, does_more base o shell between b c events e rest does)
 
 pub empty : EmptyDiary

@@ -20,7 +20,7 @@ use Rattle.fx_machine.proofs.Reached.{none_looked}
 use Rattle.fx_progress.proofs.Turning.{runs_on, settled_by, settled_cons, next_counts}
 use Rattle.fx_sched.specs.Named.{NamesConflict, NameConflicts}
 use Rattle.fx_diary.proofs.Naming.{NamesAll, name_on, name_conflicts, same_run, same_step}
-use Rattle.fx_diary.specs.Diaries.{LooksNext, StartsAgain, Does, DoesAll, MaySettle, Diary, retries_at}
+use Rattle.fx_diary.specs.Diaries.{LooksNext, StartsAgain, DoesInShell, DoesAll, MaySettle, Diary, retries_at}
 
 -- ---- one shell, while the order stays
 
@@ -37,7 +37,7 @@ pub record HasDone (base : BaseTree) (m : Machine) (shell : ℕ) (looks : List L
 abbrev with_looks : Machine → ℕ → List Look → Machine
 with_looks m shell looks = record { order = m.order; looks = set m.looks shell looks }
 
-step_of : (base : BaseTree) (m : Machine) (shell : ℕ) (looks looks' : List Look) (e : Event) → looks_of m shell ≡ looks → Does base m.order shell looks e looks' → Step base m e (with_looks m shell looks')
+step_of : (base : BaseTree) (m : Machine) (shell : ℕ) (looks looks' : List Look) (e : Event) → looks_of m shell ≡ looks → DoesInShell base m.order shell looks e looks' → Step base m e (with_looks m shell looks')
 step_of base m shell looks looks' (event.Look k path position) is (same, d) =
     subst (λ k. Step base m (event.Look k path position) (with_looks m shell looks')) (sym same)
     (subst (λ l. Step base m (event.Look shell path position) (with_looks m shell l)) (sym d.after)
@@ -50,7 +50,7 @@ step_of base m shell looks looks' (event.Conflict k entry path) is (same, d) =
     (subst (λ l. StartsAgain base m.order shell l entry path looks' → Step base m (event.Conflict shell entry path) (with_looks m shell [])) is
     (λ (d : StartsAgain base m.order shell (looks_of m shell) entry path looks'). record { txn = d.txn; next = d.next; ready = d.ready; stale = d.named.stale; after = refl }) d))
 
-names_of : (base : BaseTree) (m : Machine) (shell : ℕ) (looks looks' : List Look) (e : Event) → looks_of m shell ≡ looks → Does base m.order shell looks e looks' → NamesConflict base m e
+names_of : (base : BaseTree) (m : Machine) (shell : ℕ) (looks looks' : List Look) (e : Event) → looks_of m shell ≡ looks → DoesInShell base m.order shell looks e looks' → NamesConflict base m e
 names_of base m shell looks looks' (event.Look k path position) is d = tt
 names_of base m shell looks looks' (event.Settled k entry) is d = tt
 names_of base m shell looks looks' (event.Conflict k entry path) is (same, d) =

@@ -32,15 +32,15 @@ pub record StartsAgain (base : BaseTree) (o : List Turn) (shell : ℕ) (looks : 
   pub after : looks' ≡ []
 
 -- an event of the shell by which the order does not grow
-abbrev pub Does : BaseTree → List Turn → ℕ → List Look → Event → List Look → Type 0
-Does base o shell looks (event.Look k path position) looks' = (k ≡ shell) × LooksNext base o shell looks path position looks'
-Does base o shell looks (event.Settled k entry) looks' = ⊥
-Does base o shell looks (event.Conflict k entry path) looks' = (k ≡ shell) × StartsAgain base o shell looks entry path looks'
+abbrev pub DoesInShell : BaseTree → List Turn → ℕ → List Look → Event → List Look → Type 0
+DoesInShell base o shell looks (event.Look k path position) looks' = (k ≡ shell) × LooksNext base o shell looks path position looks'
+DoesInShell base o shell looks (event.Settled k entry) looks' = ⊥
+DoesInShell base o shell looks (event.Conflict k entry path) looks' = (k ≡ shell) × StartsAgain base o shell looks entry path looks'
 
 -- such events, one after another, while the order stays
 abbrev pub DoesAll : BaseTree → List Turn → ℕ → List Look → List Event → List Look → Type 0
 DoesAll base o shell looks [] looks' = looks ≡ looks'
-DoesAll base o shell looks (e ∷ events) looks' = (between : List Look) × Does base o shell looks e between × DoesAll base o shell between events looks'
+DoesAll base o shell looks (e ∷ events) looks' = (between : List Look) × DoesInShell base o shell looks e between × DoesAll base o shell between events looks'
 
 -- all that the shell's next transaction consults is looked at, and none of it was changed since
 pub record MaySettle (base : BaseTree) (o : List Turn) (shell : ℕ) (looks : List Look) : Type 0 where

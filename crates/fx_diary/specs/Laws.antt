@@ -8,7 +8,7 @@ use Rattle.fx_machine.specs.declared.retry.Retry.{Retry}
 use Rattle.fx_machine.specs.Machine.{Look, Run, resting, next_number}
 use Rattle.fx_machine.specs.Tried.{conflicts_of}
 use Rattle.fx_machine.specs.Turns.{FollowsSchedule}
-use Rattle.fx_diary.specs.Diaries.{Does, MaySettle, Diary}
+use Rattle.fx_diary.specs.Diaries.{DoesInShell, MaySettle, Diary}
 use Rattle.fx_diary.specs.Runs.{shells_in, HasWorked, IsOfSomeRun}
 
 -- before anything is done
@@ -18,7 +18,7 @@ EmptyDiary = (base : BaseTree) (o : List Turn) (shell : ℕ) → Diary base o sh
 -- the shell looks, or starts again, which is one retry more
 abbrev pub GrowsByEvent : Type 0
 GrowsByEvent =
-    (base : BaseTree) (o : List Turn) (shell time : ℕ) (looks looks' : List Look) (retries : List Retry) (e : Event) → Diary base o shell time looks retries → Does base (take time o) shell looks e looks'
+    (base : BaseTree) (o : List Turn) (shell time : ℕ) (looks looks' : List Look) (retries : List Retry) (e : Event) → Diary base o shell time looks retries → DoesInShell base (take time o) shell looks e looks'
     → Diary base o shell time looks' (retries ++ conflicts_of shell (next_number (take time o) shell) (e ∷ []))
 
 -- another shell settles

@@ -4,7 +4,7 @@ use Rattle.std.specs.Prelude.{IfSome, option_map}
 use Rattle.std.proofs.lemmas.List.{append-nil}
 use Rattle.std.proofs.lemmas.List.Elements.{All-push}
 use Rattle.fx_base.specs.Limits.{txn_limit}
-use Rattle.fx_durable.specs.Disk.{wrote, kept, File, DiskView, MayLeave, Torn, written, synced, LeavesOnly, IsAsTold, Writes, MayTear, Syncs}
+use Rattle.fx_durable.specs.Disk.{wrote, kept, File, DiskView, MayLeave, Torn, written, synced, LeavesOnly, IsAsTold, WritesBytes, MayTear, Syncs}
 use Rattle.fx_durable.specs.Journal.{records, at_rest, FitsRecord, Spells, RestsAt, Rests, IsBeforeOrAfter, LeavesOrder, AddsTurn}
 use Rattle.fx_spec.specs.Plans.{Turn}
 use Rattle.fx_durable.specs.Placed.{torn_written}
@@ -88,7 +88,7 @@ module _ (count : ℕ) (room : count < txn_limit) (turn : Turn) (good : FitsReco
       let t = told_torn old v file is (9 * count + 1) 9 tears in
       is_told v.told _ t.0 t.1 (goes_torn file file t.0 (9 * count + 1) 9 _ (at_start count room turn good file (seen file is) order rests) t.2 (in_first count room turn good file (seen file is) order rests)))
 
-  module _ (v : DiskView) (writes : Writes (9 * count + 1) (behind turn) old v) where
+  module _ (v : DiskView) (writes : WritesBytes (9 * count + 1) (behind turn) old v) where
     pub stops_at_second : (w : DiskView) → IsAsTold v w → LeavesOrder count turn old w
     stops_at_second w same = if_told old.told _ (λ file is order rests.
         is_told w.told _ _ (told_same v w _ (told_written old v file is (9 * count + 1) (behind turn) writes) same) (leaves_first count room turn good file (seen file is) order rests))
@@ -102,7 +102,7 @@ module _ (count : ℕ) (room : count < txn_limit) (turn : Turn) (good : FitsReco
           let t = told_torn w x _ (told_second file is) (9 * count) 1 tears in
           is_told x.told _ t.0 t.1 (goes_torn file (second count turn file) t.0 (9 * count) 1 _ (leaves_second count room turn good file (seen file is) order rests) t.2 (in_third count room turn good file (seen file is) order rests)))
 
-      module _ (x : DiskView) (opens : Writes (9 * count) (1 ∷ []) w x) where
+      module _ (x : DiskView) (opens : WritesBytes (9 * count) (1 ∷ []) w x) where
         pub stops_at_fourth : (y : DiskView) → IsAsTold x y → LeavesOrder count turn old y
         stops_at_fourth y same = if_told old.told _ (λ file is order rests.
             is_told y.told _ _ (told_same x y _ (told_written w x _ (told_second file is) (9 * count) (1 ∷ []) opens) same) (leaves_third count room turn good file (seen file is) order rests))
@@ -129,19 +129,19 @@ gate_stays from bytes None told' place is = subst (λ o. IfSome o (λ file. from
 gate_stays from bytes (Some file) told' place is = subst (λ o. IfSome o (λ file. from ≤ length file.seen)) (sym is) (omega (arith, place, (torn_written (from + 1) bytes file.seen place).no_shorter))
 
 -- and there still is one once the record behind it is written and synced
-pub has_gate_still : (from : ℕ) (bytes : List ℕ) (old v w : DiskView) → IfSome old.told (λ file. from + 1 ≤ length file.seen) → Writes (from + 1) bytes old v → Syncs v w → IfSome w.told (λ file. from ≤ length file.seen)
+pub has_gate_still : (from : ℕ) (bytes : List ℕ) (old v w : DiskView) → IfSome old.told (λ file. from + 1 ≤ length file.seen) → WritesBytes (from + 1) bytes old v → Syncs v w → IfSome w.told (λ file. from ≤ length file.seen)
 has_gate_still from bytes old v w place writes syncs = gate_stays from bytes old.told w.told place (syncs ∙ ap (λ o. option_map synced o) writes)
 
 -- the calls as the body makes them
 module _ (inner count : ℕ) (same : inner ≡ count) (old new : DiskView) where
-  pub as_written : (turn : Turn) (bytes : List ℕ) → bytes ≡ behind turn → Writes (9 * inner + 1) bytes old new → Writes (9 * count + 1) (behind turn) old new
-  as_written turn bytes is writes = subst (λ n. Writes (9 * n + 1) (behind turn) old new) same (subst (λ b. Writes (9 * inner + 1) b old new) is writes)
+  pub as_written : (turn : Turn) (bytes : List ℕ) → bytes ≡ behind turn → WritesBytes (9 * inner + 1) bytes old new → WritesBytes (9 * count + 1) (behind turn) old new
+  as_written turn bytes is writes = subst (λ n. WritesBytes (9 * n + 1) (behind turn) old new) same (subst (λ b. WritesBytes (9 * inner + 1) b old new) is writes)
 
   pub as_torn : (turn : Turn) (bytes : List ℕ) → bytes ≡ behind turn → MayTear (9 * inner + 1) (length bytes) old new → MayTear (9 * count + 1) 9 old new
   as_torn turn bytes is tears = subst (λ n. MayTear (9 * n + 1) 9 old new) same (subst (λ b. MayTear (9 * inner + 1) (length b) old new) is tears)
 
-  pub as_opened : Writes (9 * inner) (1 ∷ []) old new → Writes (9 * count) (1 ∷ []) old new
-  as_opened writes = subst (λ n. Writes (9 * n) (1 ∷ []) old new) same writes
+  pub as_opened : WritesBytes (9 * inner) (1 ∷ []) old new → WritesBytes (9 * count) (1 ∷ []) old new
+  as_opened writes = subst (λ n. WritesBytes (9 * n) (1 ∷ []) old new) same writes
 
   pub as_gate_torn : MayTear (9 * inner) 1 old new → MayTear (9 * count) 1 old new
   as_gate_torn tears = subst (λ n. MayTear (9 * n) 1 old new) same tears

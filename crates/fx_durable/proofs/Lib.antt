@@ -1,4 +1,5 @@
 pub mod Told
+pub mod Choices
 pub mod Moments
 pub mod Records
 pub mod Crash

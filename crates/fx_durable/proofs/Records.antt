@@ -5,7 +5,7 @@ use Rattle.std.proofs.lemmas.List.Elements.{All-head, All-tail}
 use Rattle.std.proofs.lemmas.Nat.{from_be_bytes-to_be_bytes_4}
 use Rattle.std.proofs.lemmas.Bool.Decides.{nat_tests}
 use Rattle.fx_base.specs.Limits.{txn_limit}
-use Rattle.fx_durable.specs.Journal.{payload, turn_in, before, reading, value_of, records, at_rest, FitsRecord, Spells}
+use Rattle.fx_durable.specs.Journal.{payload, turn_in, turn_before, reading, value_of, records, at_rest, FitsRecord, Spells}
 use Rattle.fx_spec.specs.Plans.{Turn}
 
 pub length-records : (order : List Turn) → length (records order) ≡ 9 * length order
@@ -28,7 +28,7 @@ turn_in-payload turn rest fit = λ i. (from_be_bytes-to_be_bytes_4 turn.0 fit.sh
 long : (turn : Turn) (rest : List ℕ) → nat_lt (length (payload turn ++ rest)) 8 ≡ false
 long turn rest = grind (arith, nat_tests)
 
-one_more : (left : ℕ) (turn : Turn) (rest : List ℕ) → FitsRecord turn → reading (suc left) (1 ∷ payload turn ++ rest) ≡ before turn (reading left rest)
+one_more : (left : ℕ) (turn : Turn) (rest : List ℕ) → FitsRecord turn → reading (suc left) (1 ∷ payload turn ++ rest) ≡ turn_before turn (reading left rest)
 one_more left turn rest fit = rw (long turn rest, turn_in-payload turn rest fit) refl
 
 -- a closed gate ends them, whatever stands behind it
@@ -37,7 +37,7 @@ reading-records left [] gate rest fit room shut = closed left gate rest shut
 reading-records zero (p ∷ order) gate rest fit room shut = absurd (omega (arith, room))
 reading-records (suc left) (p ∷ order) gate rest fit room shut =
     one_more left p (records order ++ gate ∷ rest) (All-head FitsRecord p order fit)
-    ∙ ap (λ r. before p r) (reading-records left order gate rest (All-tail FitsRecord p order fit) (omega (arith, room)) shut)
+    ∙ ap (λ r. turn_before p r) (reading-records left order gate rest (All-tail FitsRecord p order fit) (omega (arith, room)) shut)
 
 pub spells_closed : (order : List Turn) (gate : ℕ) (rest : List ℕ) → All FitsRecord order → length order ≤ txn_limit → gate ≢ 1 → Spells order (records order ++ gate ∷ rest)
 spells_closed order gate rest fit room shut = ap value_of (reading-records txn_limit order gate rest fit room shut)

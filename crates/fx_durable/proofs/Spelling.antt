@@ -7,7 +7,7 @@ use Rattle.std.proofs.lemmas.Bool.{false≢true}
 use Rattle.std.proofs.lemmas.List.{append-nil, take_all, drop-take, length-take, length-drop, map-append, drop-drop}
 use Rattle.std.proofs.lemmas.Bool.Decides.{nat_tests}
 use Rattle.fx_base.specs.Limits.{txn_limit}
-use Rattle.fx_durable.specs.Journal.{before, reading, is_open, turn_in, turn_of, turns_of, value_of, IsRead, Reads, IsUnread, HasReadFault, IsCalm}
+use Rattle.fx_durable.specs.Journal.{turn_before, reading, is_open, turn_in, turn_of, turns_of, value_of, IsReadImage, ReadsOrder, IsUnread, HasJournalFault, IsCalm}
 use Rattle.fx_durable.specs.Disk.{File, DiskView, IsAsTold, TellsLength}
 use Rattle.fx_durable.specs.declared.journal_fault.JournalFault.{JournalFault}
 use Rattle.fx_durable.specs.declared.journal_fault.JournalFault.TheVariants as fault
@@ -22,7 +22,7 @@ abbrev pub behind_order : List Turn → Result (List Turn) ℕ → Result (List 
 behind_order order (Ok more) = Ok (order ++ more)
 behind_order order (Err record_number) = Err (length order + record_number)
 
-pub behind_more : (order : List Turn) (turn : Turn) (r : Result (List Turn) ℕ) → behind_order order (before turn r) ≡ behind_order (order ++ turn ∷ []) r
+pub behind_more : (order : List Turn) (turn : Turn) (r : Result (List Turn) ℕ) → behind_order order (turn_before turn r) ≡ behind_order (order ++ turn ∷ []) r
 behind_more order turn (Ok more) = ap (λ l. Ok l) (sym (append_assoc order (turn ∷ []) more))
 behind_more order turn (Err n) = ap (λ m. Err m) (omega (arith, length-append order (turn ∷ [])))
 
@@ -57,7 +57,7 @@ reading_short left [] open' short = absurd (false≢true open')
 reading_short zero (gate ∷ rest) open' short = rw open' refl
 reading_short (suc left) (gate ∷ rest) open' short = rw (open', is_short rest short) refl
 
-reading_one : (left : ℕ) (image : List ℕ) → is_open image ≡ true → 8 ≤ length (drop 1 image) → reading (suc left) image ≡ before (turn_in (drop 1 image)) (reading left (drop 9 image))
+reading_one : (left : ℕ) (image : List ℕ) → is_open image ≡ true → 8 ≤ length (drop 1 image) → reading (suc left) image ≡ turn_before (turn_in (drop 1 image)) (reading left (drop 9 image))
 reading_one left [] open' long = absurd (false≢true open')
 reading_one left (gate ∷ rest) open' long = rw (open', is_long rest long) refl
 
@@ -129,29 +129,29 @@ reading_front (suc left) (gate ∷ rest) (suc n) enough = elim (cases_lt (length
       let test : nat_lt (length (take n rest)) 8 ≡ nat_lt (length rest) 8 = is_long (take n rest) (omega (arith, size, enough_here)) ∙ sym (is_long rest (omega (arith, long, enough_here))) in
       let more : reading left (drop 8 (take n rest)) ≡ reading left (drop 8 rest) =
       ap (λ l. reading left l) (drop_take 8 n rest enough_here) ∙ reading_front left (drop 8 rest) (n - 8) (omega (arith, enough)) in
-      λ i. if gate == 1 then (if test i then Err 0 else before (first_same n rest enough_here i) (more i)) else Ok []
+      λ i. if gate == 1 then (if test i then Err 0 else turn_before (first_same n rest enough_here i) (more i)) else Ok []
 ]
 
-same_reading : (seen bytes : List ℕ) → IsRead seen bytes → reading txn_limit bytes ≡ reading txn_limit seen
+same_reading : (seen bytes : List ℕ) → IsReadImage seen bytes → reading txn_limit bytes ≡ reading txn_limit seen
 same_reading seen bytes is = elim (cases_lt (length bytes) 900001) [
   | inl short ↦ ap (λ l. reading txn_limit l) (is.whole short)
   | inr long ↦ ap (λ l. reading txn_limit l) is.front ∙ reading_front txn_limit seen (length bytes) (omega (arith, long))
 ]
 
-reads_same : (seen bytes : List ℕ) (r : Result (List Pair) JournalFault) → reading txn_limit bytes ≡ reading txn_limit seen → Reads bytes r → Reads seen r
+reads_same : (seen bytes : List ℕ) (r : Result (List Pair) JournalFault) → reading txn_limit bytes ≡ reading txn_limit seen → ReadsOrder bytes r → ReadsOrder seen r
 reads_same seen bytes (Ok pairs) same reads = ap value_of (sym same) ∙ reads
 reads_same seen bytes (Err (fault.Broken n)) same reads = sym same ∙ reads
 reads_same seen bytes (Err fault.Failed) same reads = tt
 reads_same seen bytes (Err fault.NoMemory) same reads = tt
 
-reads_at : (told : Option File) (bytes : List ℕ) (r : Result (List Pair) JournalFault) → IfSome told (λ file. IsRead file.seen bytes) → Reads bytes r → IfSome told (λ file. Reads file.seen r)
+reads_at : (told : Option File) (bytes : List ℕ) (r : Result (List Pair) JournalFault) → IfSome told (λ file. IsReadImage file.seen bytes) → ReadsOrder bytes r → IfSome told (λ file. ReadsOrder file.seen r)
 reads_at None bytes r is reads = tt
 reads_at (Some file) bytes r is reads = reads_same file.seen bytes r (same_reading file.seen bytes is) reads
 
-pub reads_told : (old mid : DiskView) (bytes : List ℕ) (r : Result (List Pair) JournalFault) → IsAsTold old mid → IfSome mid.told (λ file. IsRead file.seen bytes) → Reads bytes r → IfSome old.told (λ file. Reads file.seen r)
-reads_told old mid bytes r same is reads = reads_at old.told bytes r (subst (λ t. IfSome t (λ file. IsRead file.seen bytes)) same is) reads
+pub reads_told : (old mid : DiskView) (bytes : List ℕ) (r : Result (List Pair) JournalFault) → IsAsTold old mid → IfSome mid.told (λ file. IsReadImage file.seen bytes) → ReadsOrder bytes r → IfSome old.told (λ file. ReadsOrder file.seen r)
+reads_told old mid bytes r same is reads = reads_at old.told bytes r (subst (λ t. IfSome t (λ file. IsReadImage file.seen bytes)) same is) reads
 
-pub unread_reads : (told : Option File) (e : JournalFault) → IsUnread e → IfSome told (λ file. Reads file.seen (Err e))
+pub unread_reads : (told : Option File) (e : JournalFault) → IsUnread e → IfSome told (λ file. ReadsOrder file.seen (Err e))
 unread_reads None e unread = tt
 unread_reads (Some file) (fault.Broken n) unread = absurd unread
 unread_reads (Some file) fault.Failed unread = tt
@@ -162,7 +162,7 @@ tells_at None path n answer = tt
 tells_at (Some file) path n answer = answer.0
 
 -- whatever the bytes of a chosen file spell, what was read is at the path
-pub reads_chosen : (path : List ℕ) (n : ℕ) (old new : DiskView) (r : Result (List Pair) JournalFault) → TellsLength old path n → IfErr r (λ e. e ≡ fault.Failed → ⊥) → HasReadFault path old new r
+pub reads_chosen : (path : List ℕ) (n : ℕ) (old new : DiskView) (r : Result (List Pair) JournalFault) → TellsLength old path n → IfErr r (λ e. e ≡ fault.Failed → ⊥) → HasJournalFault path old new r
 reads_chosen path n old new (Ok pairs) answer failed = tells_at old.told path n answer
 reads_chosen path n old new (Err (fault.Broken place)) answer failed = tells_at old.told path n answer
 reads_chosen path n old new (Err fault.Failed) answer failed = absurd (failed refl)

@@ -24,24 +24,24 @@ abbrev pub turn_in : List ℕ → Turn
 turn_in bytes = (from_be_bytes w32 (take 4 bytes), from_be_bytes w32 (take 4 (drop 4 bytes)))
 
 -- the turn stands before those, if there is no record that breaks; else the record's number is one more
-abbrev pub before : Turn → Result (List Turn) ℕ → Result (List Turn) ℕ
-before turn (Ok order) = Ok (turn ∷ order)
-before turn (Err record_number) = Err (record_number + 1)
+abbrev pub turn_before : Turn → Result (List Turn) ℕ → Result (List Turn) ℕ
+turn_before turn (Ok order) = Ok (turn ∷ order)
+turn_before turn (Err record_number) = Err (record_number + 1)
 
 -- The order of the records up to the first whose gate is missing or is not 1; or the number of the first record that is
 -- cut short, or that is one more than so many.
 abbrev pub reading : ℕ → List ℕ → Result (List Turn) ℕ
 reading left [] = Ok []
 reading zero (gate ∷ rest) = if gate == 1 then Err 0 else Ok []
-reading (suc left) (gate ∷ rest) = if gate == 1 then (if nat_lt (length rest) 8 then Err 0 else before (turn_in rest) (reading left (drop 8 rest))) else Ok []
+reading (suc left) (gate ∷ rest) = if gate == 1 then (if nat_lt (length rest) 8 then Err 0 else turn_before (turn_in rest) (reading left (drop 8 rest))) else Ok []
 
 abbrev pub value_of : Result (List Turn) ℕ → Option (List Turn)
 value_of (Ok order) = Some order
 value_of (Err record_number) = None
 
 -- the order that an image spells, if none of its records breaks
-abbrev pub spelled : List ℕ → Option (List Turn)
-spelled image = value_of (reading txn_limit image)
+abbrev pub spelled_order : List ℕ → Option (List Turn)
+spelled_order image = value_of (reading txn_limit image)
 
 -- an open record for each turn of an order
 abbrev pub records : List Turn → List ℕ
@@ -68,7 +68,7 @@ abbrev pub Rests : ℕ → DiskView → Type 0
 Rests count disk = IfSome disk.told (λ file. (order : List Turn) × RestsAt count order file)
 
 abbrev pub Spells : List Turn → List ℕ → Type 0
-Spells order image = spelled image ≡ Some order
+Spells order image = spelled_order image ≡ Some order
 
 -- the image spells no order, and this is the number of the first record that is cut short or is one too many
 abbrev pub Breaks : ℕ → List ℕ → Type 0
@@ -102,23 +102,23 @@ pub record IsFront (seen bytes : List ℕ) : Type 0 where
   pub within : length bytes ≤ length seen
 
 -- all bytes of a file, or as many as count
-pub record IsRead (seen bytes : List ℕ) : Type 0 where
+pub record IsReadImage (seen bytes : List ℕ) : Type 0 where
   pub front : bytes ≡ take (length bytes) seen
   pub whole : length bytes < image_limit → bytes ≡ seen
 
 -- the pairs of the order that an image spells, or the number of the first record that breaks
-abbrev pub Reads : List ℕ → Result (List Pair) JournalFault → Type 0
-Reads image (Ok pairs) = Spells (turns_of pairs) image
-Reads image (Err (fault.Broken record_number)) = Breaks record_number image
-Reads image (Err fault.Failed) = Unit {0}
-Reads image (Err fault.NoMemory) = Unit {0}
+abbrev pub ReadsOrder : List ℕ → Result (List Pair) JournalFault → Type 0
+ReadsOrder image (Ok pairs) = Spells (turns_of pairs) image
+ReadsOrder image (Err (fault.Broken record_number)) = Breaks record_number image
+ReadsOrder image (Err fault.Failed) = Unit {0}
+ReadsOrder image (Err fault.NoMemory) = Unit {0}
 
 -- a told file of which bytes were read is at this path; at Failed the disk failed, or tells a file at another path and has not failed
-abbrev pub HasReadFault : {A : Type 0} → List ℕ → DiskView → DiskView → Result A JournalFault → Type 0
-HasReadFault path old new (Ok a) = TellsAt old path
-HasReadFault path old new (Err (fault.Broken record_number)) = TellsAt old path
-HasReadFault path old new (Err fault.Failed) = FailsAt path old new
-HasReadFault path old new (Err fault.NoMemory) = Unit {0}
+abbrev pub HasJournalFault : {A : Type 0} → List ℕ → DiskView → DiskView → Result A JournalFault → Type 0
+HasJournalFault path old new (Ok a) = TellsAt old path
+HasJournalFault path old new (Err (fault.Broken record_number)) = TellsAt old path
+HasJournalFault path old new (Err fault.Failed) = FailsAt path old new
+HasJournalFault path old new (Err fault.NoMemory) = Unit {0}
 
 -- where an order was read, or a record that breaks, the count of faults stays
 abbrev pub IsCalm : {A : Type 0} → DiskView → DiskView → Result A JournalFault → Type 0

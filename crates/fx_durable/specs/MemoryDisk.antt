@@ -1,7 +1,7 @@
 -- What a disk in memory tells: what its record of calls makes of an empty file.
 use Rattle.std.specs.Prelude.{◌≡◌, ◌+◌, ◌<◌, ◌||◌, ℕ, Bool, true, false, not, List, [], ◌∷◌, ◌++◌, length, nat_lt, Some, IfSome, refl, Result, Ok, Err}
 use Rattle.fx_outside.specs.Calls.{Plan, is_next_failing, with_call, with_fault}
-use Rattle.fx_durable.specs.Disk.{File, DiskView, MayLeave, torn}
+use Rattle.fx_durable.specs.Disk.{File, Choice, DiskView, MayLeave, torn}
 use Rattle.fx_durable.specs.Replay.{no_file, replay}
 use Rattle.fx_durable.specs.Placed.{image_of}
 use Rattle.fx_durable.specs.declared.memory_disk.MemoryDisk.{MemoryDisk}
@@ -32,11 +32,14 @@ disk_plan disk = disk.calls
 abbrev pub disk_others : MemoryDisk → ℕ
 disk_others disk = disk.others
 
+abbrev pub disk_choice : MemoryDisk → Choice
+disk_choice disk = record { chosen = disk.chosen; early = disk.early }
+
 abbrev pub disk_file : MemoryDisk → File
 disk_file disk = replay (no_file (disk_path disk)) (disk_record disk) (disk_taken disk)
 
 abbrev pub disk_view : MemoryDisk → DiskView
-disk_view disk = record { told = Some (disk_file disk); faults = (disk_plan disk).faults; others = disk_others disk }
+disk_view disk = record { told = Some (disk_file disk); faults = (disk_plan disk).faults; others = disk_others disk; choice = disk_choice disk }
 
 -- the next call fails: it is listed, or no call more can be recorded
 abbrev pub fails_next : MemoryDisk → Bool
@@ -71,7 +74,7 @@ plan_after plan (Ok a) = with_call plan
 plan_after plan (Err e) = with_fault (with_call plan)
 
 -- a call with this result was made: it is counted, path, room and limit stay, and no other path was chosen
-pub record IsCall {A E : Type 0} (old new : MemoryDisk) (result : Result A E) : Type 0 where
+pub record IsCountedCall {A E : Type 0} (old new : MemoryDisk) (result : Result A E) : Type 0 where
   pub room : IsSameRoom old new
   pub plan : disk_plan new ≡ plan_after (disk_plan old) result
 

@@ -2,7 +2,7 @@
 //! closed on the disk before anything is written behind it, and is opened by a write of its own.
 ghost use Rattle.std.specs.Prelude.{◌≡◌, ◌≤◌, ◌<◌, ◌+◌, ◌∷◌, ◌++◌, [], length, is_ok, true, IfOk, OnOk, OnErr, IfSome, Err};
 ghost use Rattle.fx_base.specs.Limits.{txn_limit};
-ghost use Rattle.fx_durable.specs.Disk.{Continues, StaysUnstarted, IsAsTold, FailsAt, TellsAt, TellsLength, HasFault, ChoosesTold};
+ghost use Rattle.fx_durable.specs.Disk.{Continues, StaysUnstarted, IsAsTold, FailsAt, TellsAt, TellsLength, CountsDiskFaults, ChoosesTold, AsksChosen};
 ghost use Rattle.fx_durable.specs.Journal.{payload, RestsAt, Rests, LeavesOrder, AddsTurn};
 ghost use Rattle.fx_durable.specs.declared.journal.StartFault.TheVariants.{NotEmpty, Failed};
 
@@ -71,6 +71,8 @@ impl Journal {
         ensures calm_not_empty { result ≡ Err NotEmpty
             → (D.view disk.new).faults ≡ (D.view disk.old).faults }
         ensures others { ChoosesTold path.now (D.view disk.old) (D.view disk.new) }
+        ensures early { (D.view disk.new).choice.early ≡ (D.view disk.old).choice.early }
+        ensures chosen { OnOk result ((D.view disk.new).choice.chosen ≡ true) }
         ensures failed { result ≡ Err Failed
             → FailsAt path.now (D.view disk.old) (D.view disk.new) }
     {
@@ -112,7 +114,8 @@ impl Journal {
         ensures count { OnOk result (self.new.count ≡ self.old.count + 1) }
         ensures same { OnErr result (self.new.count ≡ self.old.count) }
         ensures good { self.new.good ≡ is_ok result }
-        ensures cause { HasFault (D.view disk.old) (D.view disk.new) result }
+        ensures cause { CountsDiskFaults (D.view disk.old) (D.view disk.new) result }
+        ensures early { AsksChosen (D.view disk.old) (D.view disk.new) }
     {
         self.good = false;
         let gate = RECORD * self.count;

@@ -9,7 +9,7 @@ mod journal_fault;
 mod memory_disk;
 mod reading;
 
-pub use disk::{Disk, DiskFailed};
+pub use disk::{Disk, DiskFailed, early_after};
 pub use disk_call::DiskCall;
 pub use journal::{Journal, StartFault};
 pub use journal_fault::JournalFault;

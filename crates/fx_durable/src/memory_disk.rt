@@ -1,18 +1,18 @@
 //! A disk in memory.
 ghost use Rattle.std.specs.Prelude.{◌≡◌, ◌⊎◌, ◌≤◌, ◌<◌, ◌+◌, ◌++◌, ◌∷◌, [], true, length, vec_capacity, vec_len, IfOk, OnOk, OnErr};
 ghost use Rattle.fx_outside.specs.Calls.{no_calls, with_failing, with_call, with_fault};
-ghost use Rattle.fx_durable.specs.Disk.{with_bytes, written, synced};
+ghost use Rattle.fx_durable.specs.Disk.{unchosen, with_bytes, written, synced};
 ghost use Rattle.fx_durable.specs.Replay.{no_file, replay, spent, IsIdle};
-ghost use Rattle.fx_durable.specs.Placed.{is_placed};
+ghost use Rattle.fx_durable.specs.Placed.{are_writes_placed};
 
-use crate::{Disk, DiskCall, DiskFailed};
+use crate::{Disk, DiskCall, DiskFailed, early_after};
 use fx_base::NoMemory;
 use fx_outside::{Calls, HostText};
 use std::alloc::Global;
 
 /// A disk that tells its file. It fails at the calls that it is told to fail, and past a number of calls and a number of
 /// written bytes, for which it takes the memory when it is made. A choice of another path than its own is no call of these,
-/// and is counted apart.
+/// and is counted apart. A call before the file is chosen is done, and is counted as early besides.
 #[derive(Debug, Drop)]
 pub struct MemoryDisk {
     path: HostText,
@@ -23,9 +23,11 @@ pub struct MemoryDisk {
     limit: u64,
     calls: Calls,
     others: u64,
+    chosen: bool,
+    early: u64,
     ghost spent: { spent made.items ≡ length taken.items },
     ghost seen: { (replay (no_file path) made.items taken.items).seen ≡ bytes.items },
-    ghost placed: { is_placed (no_file path) made.items taken.items ≡ true },
+    ghost placed: { are_writes_placed (no_file path) made.items taken.items ≡ true },
     ghost long: { length bytes.items ≤ length taken.items },
     ghost within: { length taken.items ≤ room },
     ghost recorded: { length made.items ≤ limit },
@@ -36,7 +38,7 @@ pub struct MemoryDisk {
 
 impl MemoryDisk {
     ghost use Rattle.fx_durable.specs.declared.disk_call.DiskCall.TheVariants.{Wrote, Synced};
-    ghost use Rattle.fx_durable.specs.MemoryDisk.{disk_record, disk_taken, disk_room, disk_limit, disk_plan, disk_others, disk_file, disk_view, fails_next, IsSameDisk, IsSameRoom, HasPlace, Records};
+    ghost use Rattle.fx_durable.specs.MemoryDisk.{disk_record, disk_taken, disk_room, disk_limit, disk_plan, disk_others, disk_choice, disk_file, disk_view, fails_next, IsSameDisk, IsSameRoom, HasPlace, Records};
 
     /// A disk for a file at a path, where none stands yet, with room for so many written bytes and so many calls.
     pub fn new(
@@ -51,6 +53,7 @@ impl MemoryDisk {
         ensures limit { IfOk result (λ disk. disk_limit disk ≡ calls) }
         ensures plan { IfOk result (λ disk. disk_plan disk ≡ no_calls) }
         ensures others { IfOk result (λ disk. disk_others disk ≡ 0) }
+        ensures choice { IfOk result (λ disk. disk_choice disk ≡ unchosen) }
     {
         let path = path.copy(alloc)?;
         let bytes = Vec::with_capacity(alloc, room as usize)?;
@@ -65,6 +68,8 @@ impl MemoryDisk {
             limit: calls,
             calls: Calls::new(alloc),
             others: 0,
+            chosen: false,
+            early: 0,
         })
     }
 
@@ -105,6 +110,7 @@ impl MemoryDisk {
         ensures record { disk_record self.new ≡ disk_record self.old }
         ensures taken { disk_taken self.new ≡ disk_taken self.old }
         ensures room { IsSameRoom self.old self.new }
+        ensures choice { disk_choice self.new ≡ disk_choice self.old }
     {
         self.calls.fail(call)
     }
@@ -115,6 +121,7 @@ impl MemoryDisk {
         ensures plan { disk_plan self.new ≡ with_call (disk_plan self.old) }
         ensures same { IsSameDisk self.old self.new }
         ensures others { disk_others self.new ≡ disk_others self.old }
+        ensures choice { disk_choice self.new ≡ disk_choice self.old }
     {
         let listed = self.calls.begin();
         listed || self.made.len() as u64 >= self.limit
@@ -126,6 +133,7 @@ impl MemoryDisk {
         ensures later { (disk_plan self.old).faults ≤ (disk_plan self.new).faults }
         ensures same { IsSameDisk self.old self.new }
         ensures others { disk_others self.new ≡ disk_others self.old }
+        ensures choice { disk_choice self.new ≡ disk_choice self.old }
     {
         self.calls.fault();
         DiskFailed
@@ -142,6 +150,7 @@ impl MemoryDisk {
         ensures plan { disk_plan self.new ≡ disk_plan self.old }
         ensures taken { disk_taken self.new ≡ disk_taken self.old }
         ensures room { IsSameRoom self.old self.new }
+        ensures choice { disk_choice self.new ≡ disk_choice self.old }
     {
         if (self.made.len() as u64) < self.limit {
             note(&mut self.made, call);
@@ -159,6 +168,7 @@ impl MemoryDisk {
         ensures plan { disk_plan self.new ≡ disk_plan self.old }
         ensures taken { disk_taken self.new ≡ disk_taken self.old ++ bytes.now }
         ensures room { IsSameRoom self.old self.new }
+        ensures choice { disk_choice self.new ≡ disk_choice self.old }
     {
         put(&mut self.bytes, from as usize, bytes);
         append(&mut self.taken, bytes);
@@ -173,6 +183,7 @@ impl MemoryDisk {
         ensures plan { disk_plan self.new ≡ disk_plan self.old }
         ensures taken { disk_taken self.new ≡ disk_taken self.old }
         ensures room { IsSameRoom self.old self.new }
+        ensures choice { disk_choice self.new ≡ disk_choice self.old }
     {
         note(&mut self.made, DiskCall::Synced);
     }
@@ -217,8 +228,8 @@ fn put(bytes: &mut Vec<u8>, from: usize, piece: &[u8])
 
 impl Disk for MemoryDisk {
     ghost use Rattle.std.specs.Prelude.{◌≡◌, ◌<◌, ◌≤◌, length, IfOk, OnOk, OnErr, IfSome, Some};
-    ghost use Rattle.fx_durable.specs.Disk.{IsAsTold, Writes, MayTear, Syncs, TellsLength, TellsBytes, HasFault, HasOpenFault};
-    ghost use Rattle.fx_durable.specs.MemoryDisk.{disk_path, disk_taken, disk_view, fails_next, fails_write, taken_after, FailsWhere, IsCall, IsUntouched, Records, CountsAsWritten, file_image};
+    ghost use Rattle.fx_durable.specs.Disk.{IsAsTold, WritesBytes, MayTear, Syncs, TellsLength, TellsFileBytes, CountsDiskFaults, HasOpenFault, Chooses, CountsEarly};
+    ghost use Rattle.fx_durable.specs.MemoryDisk.{disk_path, disk_taken, disk_view, fails_next, fails_write, taken_after, FailsWhere, IsCountedCall, IsUntouched, Records, CountsAsWritten, file_image};
     ghost use Rattle.fx_durable.specs.declared.disk_call.DiskCall.TheVariants.{Choose, Read, Wrote, Tore, Synced, Unsynced};
 
     ghost view = { disk_view };
@@ -229,9 +240,10 @@ impl Disk for MemoryDisk {
         ensures answer { IfOk result (TellsLength (disk_view self.old) path.now) }
         ensures same { IsAsTold (disk_view self.old) (disk_view self.new) }
         ensures cause { HasOpenFault path.now (disk_view self.old) (disk_view self.new) result }
+        ensures early { Chooses (disk_view self.old) (disk_view self.new) result }
         ensures fails { path.now ≡ disk_path self.old → FailsWhere (fails_next self.old) result }
         ensures record { path.now ≡ disk_path self.old → Records Choose self.old self.new }
-        ensures call { path.now ≡ disk_path self.old → IsCall self.old self.new result }
+        ensures call { path.now ≡ disk_path self.old → IsCountedCall self.old self.new result }
         ensures no_call { (path.now ≡ disk_path self.old → ⊥) → IsUntouched self.old self.new }
         ensures taken { disk_taken self.new ≡ disk_taken self.old }
     {
@@ -244,20 +256,23 @@ impl Disk for MemoryDisk {
         if fails {
             return Err(self.failed());
         }
+        self.chosen = true;
         Ok(self.bytes.len() as u64)
     }
 
     fn read(&mut self, from: u64, buf: &mut [u8]) -> Result<usize, DiskFailed>
         requires { 0 < length buf.old }
         ensures bound { IfOk result (λ n. n ≤ length buf.new) }
-        ensures answer { IfOk result (TellsBytes (disk_view self.old) from buf.new) }
+        ensures answer { IfOk result (TellsFileBytes (disk_view self.old) from buf.new) }
         ensures same { IsAsTold (disk_view self.old) (disk_view self.new) }
-        ensures cause { HasFault (disk_view self.old) (disk_view self.new) result }
+        ensures cause { CountsDiskFaults (disk_view self.old) (disk_view self.new) result }
+        ensures early { CountsEarly (disk_view self.old) (disk_view self.new) }
         ensures fails { FailsWhere (fails_next self.old) result }
         ensures record { Records Read self.old self.new }
-        ensures call { IsCall self.old self.new result }
+        ensures call { IsCountedCall self.old self.new result }
         ensures taken { disk_taken self.new ≡ disk_taken self.old }
     {
+        self.early = early_after(self.chosen, self.early);
         let fails = self.begin();
         self.log(DiskCall::Read);
         if fails {
@@ -273,18 +288,20 @@ impl Disk for MemoryDisk {
     fn write(&mut self, from: u64, bytes: &[u8]) -> Result<(), DiskFailed>
         requires { IfSome (disk_view self.old).told (λ file. from ≤ length file.seen) }
         ensures written { OnOk result
-            (Writes from bytes.now (disk_view self.old) (disk_view self.new)) }
+            (WritesBytes from bytes.now (disk_view self.old) (disk_view self.new)) }
         ensures failed { OnErr result
             (MayTear from (length bytes.now) (disk_view self.old) (disk_view self.new)) }
-        ensures cause { HasFault (disk_view self.old) (disk_view self.new) result }
+        ensures cause { CountsDiskFaults (disk_view self.old) (disk_view self.new) result }
+        ensures early { CountsEarly (disk_view self.old) (disk_view self.new) }
         ensures fails { FailsWhere (fails_write self.old (length bytes.now)) result }
         ensures record { OnOk result (Records (Wrote from (length bytes.now)) self.old self.new) }
         ensures tore { OnErr result (Records (Tore from (length bytes.now)) self.old self.new) }
         ensures counts { OnErr result
             (CountsAsWritten from (length bytes.now) self.old self.new) }
-        ensures call { IsCall self.old self.new result }
+        ensures call { IsCountedCall self.old self.new result }
         ensures taken { disk_taken self.new ≡ taken_after (disk_taken self.old) bytes.now result }
     {
+        self.early = early_after(self.chosen, self.early);
         let fails = self.begin();
         let left = self.room as usize - self.taken.len();
         if fails || left < bytes.len() {
@@ -298,13 +315,15 @@ impl Disk for MemoryDisk {
     fn sync(&mut self) -> Result<(), DiskFailed>
         ensures kept { OnOk result (Syncs (disk_view self.old) (disk_view self.new)) }
         ensures same { OnErr result (IsAsTold (disk_view self.old) (disk_view self.new)) }
-        ensures cause { HasFault (disk_view self.old) (disk_view self.new) result }
+        ensures cause { CountsDiskFaults (disk_view self.old) (disk_view self.new) result }
+        ensures early { CountsEarly (disk_view self.old) (disk_view self.new) }
         ensures fails { FailsWhere (fails_next self.old) result }
         ensures record { OnOk result (Records Synced self.old self.new) }
         ensures unsynced { OnErr result (Records Unsynced self.old self.new) }
-        ensures call { IsCall self.old self.new result }
+        ensures call { IsCountedCall self.old self.new result }
         ensures taken { disk_taken self.new ≡ disk_taken self.old }
     {
+        self.early = early_after(self.chosen, self.early);
         if self.begin() {
             self.log(DiskCall::Unsynced);
             return Err(self.failed());

@@ -2,8 +2,8 @@
 ghost use Rattle.std.specs.Prelude.{◌≡◌, ◌<◌, ◌≤◌, length, drop, true, None, IfOk, OnOk, IfErr, IfSome};
 ghost use Rattle.fx_base.specs.Causes.{Rose};
 ghost use Rattle.fx_outside.specs.Host.{ReadsAt};
-ghost use Rattle.fx_durable.specs.Disk.{IsAsTold, ChoosesTold};
-ghost use Rattle.fx_durable.specs.Journal.{is_open, turn_of, turn_in, IsRead, IsUnread, Reads, HasReadFault, IsCalm};
+ghost use Rattle.fx_durable.specs.Disk.{IsAsTold, ChoosesTold, AsksChosen};
+ghost use Rattle.fx_durable.specs.Journal.{is_open, turn_of, turn_in, IsReadImage, IsUnread, ReadsOrder, HasJournalFault, IsCalm};
 ghost use Rattle.fx_durable.specs.declared.journal_fault.JournalFault.TheVariants.{Failed};
 
 use crate::journal::RECORD;
@@ -38,6 +38,7 @@ fn read_piece<D: Disk>(alloc: Global, disk: &mut D, from: u64) -> Result<Vec<u8>
     ensures later { (D.view disk.old).faults ≤ (D.view disk.new).faults }
     ensures calm { OnOk result ((D.view disk.new).faults ≡ (D.view disk.old).faults) }
     ensures others { (D.view disk.new).others ≡ (D.view disk.old).others }
+    ensures early { AsksChosen (D.view disk.old) (D.view disk.new) }
     ensures unread { IfErr result IsUnread }
     ensures failed { IfErr result (λ fault. fault ≡ Failed
         → Rose (D.view disk.old).faults (D.view disk.new).faults) }
@@ -51,11 +52,12 @@ fn read_piece<D: Disk>(alloc: Global, disk: &mut D, from: u64) -> Result<Vec<u8>
 /// The bytes of the file, or as many from its front as count.
 fn read_bytes<D: Disk>(alloc: Global, disk: &mut D) -> Result<Vec<u8>, JournalFault>
     ensures read { IfOk result (λ bytes. IfSome (D.view disk.old).told
-        (λ file. IsRead file.seen bytes.items)) }
+        (λ file. IsReadImage file.seen bytes.items)) }
     ensures same { IsAsTold (D.view disk.old) (D.view disk.new) }
     ensures later { (D.view disk.old).faults ≤ (D.view disk.new).faults }
     ensures calm { OnOk result ((D.view disk.new).faults ≡ (D.view disk.old).faults) }
     ensures others { (D.view disk.new).others ≡ (D.view disk.old).others }
+    ensures early { AsksChosen (D.view disk.old) (D.view disk.new) }
     ensures unread { IfErr result IsUnread }
     ensures failed { IfErr result (λ fault. fault ≡ Failed
         → Rose (D.view disk.old).faults (D.view disk.new).faults) }
@@ -98,7 +100,7 @@ fn first_pair(bytes: &[u8]) -> Option<Pair>
 
 /// The order that bytes spell.
 fn read_pairs(alloc: Global, bytes: &[u8]) -> Result<Pairs, JournalFault>
-    ensures reads { Reads bytes.now result }
+    ensures reads { ReadsOrder bytes.now result }
     ensures failed { IfErr result (λ fault. fault ≡ Failed → ⊥) }
 {
     let mut pairs = Listed::new(alloc);
@@ -123,12 +125,13 @@ pub fn read_journal<D: Disk>(
     disk: &mut D,
     path: &HostText,
 ) -> Result<Pairs, JournalFault>
-    ensures reads { IfSome (D.view disk.old).told (λ file. Reads file.seen result) }
+    ensures reads { IfSome (D.view disk.old).told (λ file. ReadsOrder file.seen result) }
     ensures same { IsAsTold (D.view disk.old) (D.view disk.new) }
     ensures later { (D.view disk.old).faults ≤ (D.view disk.new).faults }
     ensures calm { IsCalm (D.view disk.old) (D.view disk.new) result }
     ensures others { ChoosesTold path.now (D.view disk.old) (D.view disk.new) }
-    ensures cause { HasReadFault path.now (D.view disk.old) (D.view disk.new) result }
+    ensures early { (D.view disk.new).choice.early ≡ (D.view disk.old).choice.early }
+    ensures cause { HasJournalFault path.now (D.view disk.old) (D.view disk.new) result }
 {
     disk.choose(path)?;
     let bytes = read_bytes(alloc, disk)?;

@@ -10,7 +10,7 @@ use Rattle.fx_store.specs.Rule.{Ask, Answer, Look, ◌>>=◌}
 use Rattle.fx_store.proofs.Asks.{ask-bind-assoc}
 use Rattle.fx_expr.specs.Sets.{set_of}
 use Rattle.fx_spec.specs.Edit.{set_to, removed, names_of, clear_all, cleared, clear_levels, clear, entry, entries, new_names}
-use Rattle.fx_edit.specs.Rules.{adding, editing, listing, cleared_listing}
+use Rattle.fx_edit.specs.Rules.{adding, edit_answer, listing, cleared_listing}
 
 abbrev Path : Type 0
 Path = List (List ℕ)
@@ -74,8 +74,8 @@ adding-listing before q names = adding-first before (removed q ∷ []) (entries 
 
 -- ---- a directory with new names, as an edit
 
-pub editing-first : (first : List Change) (rule : Ask (List Change)) → editing (adding first rule) ≡ (rule >>= λ rest. Answer (Ok (first ++ rest)))
+pub editing-first : (first : List Change) (rule : Ask (List Change)) → edit_answer (adding first rule) ≡ (rule >>= λ rest. Answer (Ok (first ++ rest)))
 editing-first first rule = ask-bind-assoc rule (λ rest. Answer (first ++ rest)) (λ cs. Answer (Ok cs))
 
-pub new_names-is : (q : Path) (old new : List (List ℕ)) → new_names q old new ≡ editing (adding (set_to q (Dir new) ∷ []) (entries (entry q old new) (set_of (old ++ new))))
+pub new_names-is : (q : Path) (old new : List (List ℕ)) → new_names q old new ≡ edit_answer (adding (set_to q (Dir new) ∷ []) (entries (entry q old new) (set_of (old ++ new))))
 new_names-is q old new = sym (editing-first (set_to q (Dir new) ∷ []) (entries (entry q old new) (set_of (old ++ new))))

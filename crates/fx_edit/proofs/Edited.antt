@@ -19,7 +19,7 @@ use Rattle.fx_session.specs.declared.session.Session.{Session}
 use Rattle.fx_session.specs.Implements.{Implements, Answers}
 use Rattle.fx_session.proofs.Calls.{answers, then_on, then_answers, stops, then_refused}
 use Rattle.fx_session.proofs.Halting.{no_memory_at_once, stop_halts}
-use Rattle.fx_edit.specs.Rules.{editing, looking, made_in}
+use Rattle.fx_edit.specs.Rules.{edit_answer, looking, made_in}
 use Rattle.fx_edit.specs.Values.{Tells}
 use Rattle.fx_edit.proofs.Exits.{by_rule}
 
@@ -35,7 +35,7 @@ edit_refused refusal is = by_rule is (answers (Err refusal) (Err refusal) refl)
 pub edit_answered : {R L : Type 0} {m : Meaning R} {s : Session R L} {other : Ask (Answered (List Change))} (cs : List Change) → other ≡ Answer (Ok cs) → Answers {X = List Change} m (λ e. e) s s other (Ok cs)
 edit_answered cs is = by_rule is (answers (Ok cs) (Ok cs) refl)
 
-module _ {R L : Type 0} {m : Meaning R} {old mid : Session R L} {other : Ask (Answered (List Change))} {rule : Ask (List Change)} (is : other ≡ editing rule) where
+module _ {R L : Type 0} {m : Meaning R} {old mid : Session R L} {other : Ask (Answered (List Change))} {rule : Ask (List Change)} (is : other ≡ edit_answer rule) where
   pub edit_stops : {why : Stop} (r : Result (List Change) Halt) → IsErrAnd r (λ h. h ≡ halt.Stopped why) → Implements {X = List Change} m (λ e. e) old mid rule (Err why) → Answers m (λ e. e) old mid other r
   edit_stops r e h = by_rule is (stop_halts rule (λ (cs : List Change). Answer (Ok cs)) r e h)
 

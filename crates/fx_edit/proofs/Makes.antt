@@ -18,7 +18,7 @@ use Rattle.fx_spec.specs.Edit.{set_to, names_of, children, made, make, lacks_roo
 use Rattle.fx_spec.specs.Move.{Answered}
 use Rattle.fx_view.proofs.Lists.{drop_past}
 use Rattle.fx_edit.specs.Kinds.{lists_some}
-use Rattle.fx_edit.specs.Rules.{editing, looking, made_node, made_along, made_all, made_in, IsNextMade}
+use Rattle.fx_edit.specs.Rules.{edit_answer, looking, made_node, made_along, made_all, made_in, IsNextMade}
 
 abbrev Path : Type 0
 Path = List (List ℕ)
@@ -39,7 +39,7 @@ look_all-bind {A} {B} (p ∷ ps) x f = ap (λ (r : Ask B). Look p (λ n. r)) (lo
 looks-editing : (ps : List Path) (x : List Change) → (looking ps >>= λ u. Answer x) >>= (λ cs. Answer (Ok cs)) ≡ look_all {A = Answered (List Change)} ps (Answer (Ok x))
 looks-editing ps x = ap (λ (r : Ask (List Change)). r >>= λ cs. Answer (Ok cs)) (look_all-bind ps tt (λ u. Answer x)) ∙ look_all-bind ps x (λ cs. Answer (Ok cs))
 
-pub make-is : (here : Path) (names : List (List ℕ)) (n : List ℕ) (node : Node) → slice_get names 0 ≡ Some n → make here names node ≡ editing (made_in here n (made_all here names node))
+pub make-is : (here : Path) (names : List (List ℕ)) (n : List ℕ) (node : Node) → slice_get names 0 ≡ Some n → make here names node ≡ edit_answer (made_in here n (made_all here names node))
 make-is here [] n node first = cc
 make-is here (m ∷ names) n node first =
     let same : m ≡ n = cc in

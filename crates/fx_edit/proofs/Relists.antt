@@ -17,7 +17,7 @@ use Rattle.fx_text.proofs.Canon.{ascending_set}
 use Rattle.fx_text.proofs.Merging.{least_of_first, least_of_second, least_less, least_equal, least_greater}
 use Rattle.fx_text.proofs.Order.{other_greater, other_less}
 use Rattle.fx_spec.specs.Edit.{entry, entries}
-use Rattle.fx_edit.specs.Rules.{adding, changed_entries, left_of, change_of, IsFirst, IsNext, IsNextOf}
+use Rattle.fx_edit.specs.Rules.{adding, changed_entries, names_left, change_at_name, IsFirst, IsLeastName, IsNextOf}
 use Rattle.fx_view.specs.declared.reader.Stop.{Stop}
 use Rattle.fx_view.specs.Meaning.{Meaning}
 use Rattle.fx_session.specs.declared.session.Session.{Session}
@@ -35,26 +35,26 @@ lacks n [] a = refl
 lacks n (m ∷ ns) a = has-text (m ∷ ns) n ∙ (λ i. other n m a.0 i || has_text n ns) ∙ sym (has-text ns n) ∙ lacks n ns a.1
 
 module _ (s t : List ℕ) (c d : List (List ℕ)) (up : IsAscending (s ∷ c)) (vp : IsAscending (t ∷ d)) where
-  at_less : slice_cmp nat_cmp s t ≡ Less → IsNext (s ∷ c) (t ∷ d) s true false
+  at_less : slice_cmp nat_cmp s t ≡ Less → IsLeastName (s ∷ c) (t ∷ d) s true false
   unfolding IsStrictlySortedBy
   at_less e = record { least = least_less s t c d up vp e; first = refl; second = lacks s (t ∷ d) (e, all_below s t d e vp.0) }
 
-  at_greater : slice_cmp nat_cmp s t ≡ Greater → IsNext (s ∷ c) (t ∷ d) t false true
+  at_greater : slice_cmp nat_cmp s t ≡ Greater → IsLeastName (s ∷ c) (t ∷ d) t false true
   unfolding IsStrictlySortedBy
   at_greater e = let f = flipped s t e in record { least = least_greater s t c d up vp e; first = lacks t (s ∷ c) (f, all_below t s c f up.0); second = refl }
 
-  at_equal : slice_cmp nat_cmp s t ≡ Equal → IsNext (s ∷ c) (t ∷ d) s true true
+  at_equal : slice_cmp nat_cmp s t ≡ Equal → IsLeastName (s ∷ c) (t ∷ d) s true true
   at_equal e = record { least = least_equal s t c d up vp e; first = refl; second = ap (λ n. n ∷ d) (sym (exact_bytes s t e)) }
 
 module _ (a b : List (List ℕ)) (n : List ℕ) (c : List (List ℕ)) where
-  pub next_first : IsAscending a → a ≡ n ∷ c → b ≡ [] → IsNext a b n true false
+  pub next_first : IsAscending a → a ≡ n ∷ c → b ≡ [] → IsLeastName a b n true false
   next_first up e f =
-      subst (λ x. IsNext x b n true false) (sym e) (subst (λ y. IsNext (n ∷ c) y n true false) (sym f)
+      subst (λ x. IsLeastName x b n true false) (sym e) (subst (λ y. IsLeastName (n ∷ c) y n true false) (sym f)
       (record { least = least_of_first n c (subst (λ x. IsAscending x) e up); first = refl; second = refl }))
 
-  pub next_second : IsAscending b → a ≡ [] → b ≡ n ∷ c → IsNext a b n false true
+  pub next_second : IsAscending b → a ≡ [] → b ≡ n ∷ c → IsLeastName a b n false true
   next_second up e f =
-      subst (λ x. IsNext x b n false true) (sym e) (subst (λ y. IsNext [] y n false true) (sym f)
+      subst (λ x. IsLeastName x b n false true) (sym e) (subst (λ y. IsLeastName [] y n false true) (sym f)
       (record { least = least_of_second n c (subst (λ x. IsAscending x) f up); first = refl; second = refl }))
 
 module _ (a b : List (List ℕ)) (s t : List ℕ) (c d : List (List ℕ)) (up : IsAscending a) (vp : IsAscending b) (e : a ≡ s ∷ c) (f : b ≡ t ∷ d) where
@@ -64,16 +64,16 @@ module _ (a b : List (List ℕ)) (s t : List ℕ) (c d : List (List ℕ)) (up : 
   vps : IsAscending (t ∷ d)
   vps = subst (λ x. IsAscending x) f vp
 
-  both : (n : List ℕ) (x y : Bool) → IsNext (s ∷ c) (t ∷ d) n x y → IsNext a b n x y
-  both n x y h = subst (λ l. IsNext l b n x y) (sym e) (subst (λ l. IsNext (s ∷ c) l n x y) (sym f) h)
+  both : (n : List ℕ) (x y : Bool) → IsLeastName (s ∷ c) (t ∷ d) n x y → IsLeastName a b n x y
+  both n x y h = subst (λ l. IsLeastName l b n x y) (sym e) (subst (λ l. IsLeastName (s ∷ c) l n x y) (sym f) h)
 
-  pub next_less : slice_cmp nat_cmp s t ≡ Less → IsNext a b s true false
+  pub next_less : slice_cmp nat_cmp s t ≡ Less → IsLeastName a b s true false
   next_less o = both s true false (at_less s t c d ups vps o)
 
-  pub next_equal : slice_cmp nat_cmp s t ≡ Equal → IsNext a b s true true
+  pub next_equal : slice_cmp nat_cmp s t ≡ Equal → IsLeastName a b s true true
   next_equal o = both s true true (at_equal s t c d ups vps o)
 
-  pub next_greater : slice_cmp nat_cmp s t ≡ Greater → IsNext a b t false true
+  pub next_greater : slice_cmp nat_cmp s t ≡ Greater → IsLeastName a b t false true
   next_greater o = both t false true (at_greater s t c d ups vps o)
 
 -- ---- the changes of the names that are left
@@ -83,7 +83,7 @@ same_entries f g [] h = refl
 same_entries f g (n ∷ ns) h = λ i. h.0 i >>= λ first. same_entries f g ns h.1 i >>= λ rest. Answer (first ++ rest)
 
 -- a set and what is left of it have the same later names
-later : (x : Bool) (a : List (List ℕ)) (n m : List ℕ) → IsFirst x a n → slice_cmp nat_cmp n m ≡ Less → has a m ≡ has (left_of x a) m
+later : (x : Bool) (a : List (List ℕ)) (n m : List ℕ) → IsFirst x a n → slice_cmp nat_cmp n m ≡ Less → has a m ≡ has (names_left x a) m
 later false a n m w e = refl
 later true a n m w e =
     ap (λ l. has l m) w ∙ has-text (n ∷ drop 1 a) m ∙ ap (λ b. b || has_text m (drop 1 a)) (other_less n m e) ∙ sym (has-text (drop 1 a) m)
@@ -92,26 +92,26 @@ has_first : (x : Bool) (a : List (List ℕ)) (n : List ℕ) → IsFirst x a n �
 has_first true a n w = ap (λ l. has l n) w ∙ has_head n (drop 1 a)
 has_first false a n w = w
 
-module _ (q a b : List (List ℕ)) (n : List ℕ) (x y : Bool) (next : IsNext a b n x y) where
+module _ (q a b : List (List ℕ)) (n : List ℕ) (x y : Bool) (next : IsLeastName a b n x y) where
   abbrev c : List (List ℕ)
-  c = left_of x a
+  c = names_left x a
 
   abbrev d : List (List ℕ)
-  d = left_of y b
+  d = names_left y b
 
   alike : (ns : List (List ℕ)) → AllByRecursion (λ m. slice_cmp nat_cmp n m ≡ Less) ns → AllByRecursion (λ m. entry q a b m ≡ entry q c d m) ns
   alike [] above = tt
-  alike (m ∷ ns) above = ((λ i. change_of q m (later x a n m next.first above.0 i) (later y b n m next.second above.0 i)), alike ns above.1)
+  alike (m ∷ ns) above = ((λ i. change_at_name q m (later x a n m next.first above.0 i) (later y b n m next.second above.0 i)), alike ns above.1)
 
   above : AllByRecursion (λ m. slice_cmp nat_cmp n m ≡ Less) (set_of (c ++ d))
   unfolding IsStrictlySortedBy
   above = (subst (λ l. IsAscending l) next.least.whole (ascending_set (a ++ b))).0
 
-  pub left_next : (so_far : List Change) → adding so_far (changed_entries q a b) ≡ (adding so_far (change_of q n x y) >>= λ cs. adding cs (changed_entries q c d))
+  pub left_next : (so_far : List Change) → adding so_far (changed_entries q a b) ≡ (adding so_far (change_at_name q n x y) >>= λ cs. adding cs (changed_entries q c d))
   left_next so_far =
       ap (λ ns. adding so_far (entries (entry q a b) ns)) next.least.whole
       ∙ adding-entries (entry q a b) so_far n (set_of (c ++ d))
-      ∙ (λ i. adding so_far (change_of q n (has_first x a n next.first i) (has_first y b n next.second i)) >>= λ cs. adding cs (same_entries (entry q a b) (entry q c d) (set_of (c ++ d)) (alike (set_of (c ++ d)) above) i))
+      ∙ (λ i. adding so_far (change_at_name q n (has_first x a n next.first i) (has_first y b n next.second i)) >>= λ cs. adding cs (same_entries (entry q a b) (entry q c d) (set_of (c ++ d)) (alike (set_of (c ++ d)) above) i))
 
 pub none_left : (q a b : List (List ℕ)) (so_far : List Change) → set_of (a ++ b) ≡ [] → adding so_far (changed_entries q a b) ≡ Answer so_far
 none_left q a b so_far e = ap (λ ns. adding so_far (entries (entry q a b) ns)) e ∙ adding-none so_far
@@ -130,13 +130,13 @@ module _ {R L : Type 0} {m : Meaning R} {q old new : List (List ℕ)} {start : S
   relisting_first = record { goes = λ final new r h. h }
 
   module _ {now : Session R L} {so_far : List Change} {a b : List (List ℕ)} (is : IsRelisting m q old new start now begun so_far a b) where
-    module _ {n : List ℕ} {x y : Bool} (next : IsNext a b n x y) where
-      pub relisting_next : {later : Session R L} {more : List Change} → Implements {X = Unit {0}} m (λ (u : Unit {0}). more) now later (adding so_far (change_of q n x y)) (Ok tt) → IsRelisting m q old new start later begun more (left_of x a) (left_of y b)
-      relisting_next h = record { goes = λ final. goes_on (rest q a b so_far) (is.goes final) (adding so_far (change_of q n x y)) (rest q (left_of x a) (left_of y b)) (left_next q a b n x y next so_far) h }
+    module _ {n : List ℕ} {x y : Bool} (next : IsLeastName a b n x y) where
+      pub relisting_next : {later : Session R L} {more : List Change} → Implements {X = Unit {0}} m (λ (u : Unit {0}). more) now later (adding so_far (change_at_name q n x y)) (Ok tt) → IsRelisting m q old new start later begun more (names_left x a) (names_left y b)
+      relisting_next h = record { goes = λ final. goes_on (rest q a b so_far) (is.goes final) (adding so_far (change_at_name q n x y)) (rest q (names_left x a) (names_left y b)) (left_next q a b n x y next so_far) h }
 
-      pub relisting_stops : {later : Session R L} {more final : List Change} {why : Stop} (r : Result (Unit {0}) Stop) → IsErrAnd r (λ d. d ≡ why) → Implements {X = Unit {0}} m (λ (u : Unit {0}). more) now later (adding so_far (change_of q n x y)) (Err why)
+      pub relisting_stops : {later : Session R L} {more final : List Change} {why : Stop} (r : Result (Unit {0}) Stop) → IsErrAnd r (λ d. d ≡ why) → Implements {X = Unit {0}} m (λ (u : Unit {0}). more) now later (adding so_far (change_at_name q n x y)) (Err why)
           → Implements m (λ (u : Unit {0}). final) start later (adding begun (changed_entries q old new)) r
-      relisting_stops {final = final} r e h = goes_stop (rest q a b so_far) (is.goes final) (adding so_far (change_of q n x y)) (rest q (left_of x a) (left_of y b)) (left_next q a b n x y next so_far) r e h
+      relisting_stops {final = final} r e h = goes_stop (rest q a b so_far) (is.goes final) (adding so_far (change_at_name q n x y)) (rest q (names_left x a) (names_left y b)) (left_next q a b n x y next so_far) r e h
 
     pub relisting_ends : set_of (a ++ b) ≡ [] → Implements {X = Unit {0}} m (λ (u : Unit {0}). so_far) start now (adding begun (changed_entries q old new)) (Ok tt)
     relisting_ends none = goes_end (rest q a b so_far) (is.goes so_far) tt (none_left q a b so_far none)
@@ -148,7 +148,7 @@ pub some_new : (y : Bool) (b new : List (List ℕ)) (n : List ℕ) → IsFirst y
 some_new true b new n w few e = omega (arith, ap length w, few)
 some_new false b new n w few e = absurd (cc)
 
-fewer : (y : Bool) (b : List (List ℕ)) → length (left_of y b) ≤ length b
+fewer : (y : Bool) (b : List (List ℕ)) → length (names_left y b) ≤ length b
 fewer true [] = omega arith
 fewer true (n ∷ b) = omega arith
 fewer false b = omega arith

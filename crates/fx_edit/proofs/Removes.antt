@@ -18,7 +18,7 @@ use Rattle.fx_session.specs.Implements.{Implements}
 use Rattle.fx_session.proofs.Calls.{then_on, stops, then_refused}
 use mathlib.Core.Path.{fun_ext}
 use Rattle.fx_base.proofs.Lists.{none_past}
-use Rattle.fx_edit.specs.Rules.{adding, editing, removing, HasLast}
+use Rattle.fx_edit.specs.Rules.{adding, edit_answer, removing, HasLast}
 use Rattle.fx_edit.proofs.Addings.{editing-first}
 use Rattle.fx_edit.proofs.Exits.{by_rule, gathered, ungathered}
 
@@ -37,7 +37,7 @@ remove_root-is [] none = refl
 remove_root-is (n ∷ names) none = absurd (omega (arith, none_past (n ∷ names) (length (n ∷ names) - 1) (sym none)))
 
 -- at a path that is not the root
-pub remove_entry-is : (path : Path) (name : List ℕ) → HasLast path name → remove_entry path ≡ editing (removing path name)
+pub remove_entry-is : (path : Path) (name : List ℕ) → HasLast path name → remove_entry path ≡ edit_answer (removing path name)
 remove_entry-is [] name has = absurd (omega (arith, has.some))
 remove_entry-is (n ∷ names) name has =
     let q : Path = n ∷ names in

@@ -17,8 +17,8 @@ abbrev pub adding : List Change → Ask (List Change) → Ask (List Change)
 adding before rule = rule >>= λ changes. Answer (before ++ changes)
 
 -- the changes of a rule, as an edit's answer
-abbrev pub editing : Ask (List Change) → Ask (Answered (List Change))
-editing rule = rule >>= λ changes. Answer (Ok changes)
+abbrev pub edit_answer : Ask (List Change) → Ask (Answered (List Change))
+edit_answer rule = rule >>= λ changes. Answer (Ok changes)
 
 -- looks at each path, with nothing to answer
 abbrev pub looking : List (List (List ℕ)) → Ask (Unit {0})
@@ -81,9 +81,9 @@ abbrev pub remove_there : List (List ℕ) → Ask (Answered (List Change))
 remove_there path = resolve path false >>= remove_landed path
 
 -- the names of a set without its first, where that is the one that is gone through
-abbrev pub left_of : Bool → List (List ℕ) → List (List ℕ)
-left_of true names = drop 1 names
-left_of false names = names
+abbrev pub names_left : Bool → List (List ℕ) → List (List ℕ)
+names_left true names = drop 1 names
+names_left false names = names
 
 -- an empty file at a new name, where it is looked at before
 abbrev pub added_file : List (List ℕ) → Ask (List Change)
@@ -94,8 +94,8 @@ abbrev pub changed_entries : List (List ℕ) → List (List ℕ) → List (List 
 changed_entries q old new = entries (entry q old new) (set_of (old ++ new))
 
 -- what is done at a name, by whether the old names have it and whether the new ones do
-abbrev pub change_of : List (List ℕ) → List ℕ → Bool → Bool → Ask (List Change)
-change_of q n old new =
+abbrev pub change_at_name : List (List ℕ) → List ℕ → Bool → Bool → Ask (List Change)
+change_at_name q n old new =
     let added = added_file (q /ₚ n) in
     let dropped = clear (q /ₚ n) in
     cond new (cond old (Answer []) added) dropped
@@ -106,13 +106,13 @@ IsFirst true names n = names ≡ n ∷ drop 1 names
 IsFirst false names n = has names n ≡ false
 
 -- the name is the least of two sets, and each has it or not
-pub record IsNext (a b : List (List ℕ)) (n : List ℕ) (x y : Bool) : Type 0 where
-  pub least : IsLeastOf a b n (left_of x a) (left_of y b)
+pub record IsLeastName (a b : List (List ℕ)) (n : List ℕ) (x y : Bool) : Type 0 where
+  pub least : IsLeastOf a b n (names_left x a) (names_left y b)
   pub first : IsFirst x a n
   pub second : IsFirst y b n
 
 -- and these are left of the two sets without it
 pub record IsNextOf (a b : List (List ℕ)) (n : List ℕ) (x y : Bool) (c d : List (List ℕ)) : Type 0 where
-  pub next : IsNext a b n x y
-  pub olds : c ≡ left_of x a
-  pub news : d ≡ left_of y b
+  pub next : IsLeastName a b n x y
+  pub olds : c ≡ names_left x a
+  pub news : d ≡ names_left y b

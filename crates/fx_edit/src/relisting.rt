@@ -5,7 +5,7 @@ ghost use Rattle.fx_store.specs.Resolve.{◌/ₚ◌};
 ghost use Rattle.fx_expr.specs.Sets.{IsAscending, set_of};
 ghost use Rattle.fx_spec.specs.Edit as edit;
 ghost use Rattle.fx_session.specs.Implements.{Implements};
-ghost use Rattle.fx_edit.specs.Rules.{adding, added_file, changed_entries, change_of, IsNextOf};
+ghost use Rattle.fx_edit.specs.Rules.{adding, added_file, changed_entries, change_at_name, IsNextOf};
 
 use crate::clearing::clear_entry;
 use crate::edits::Edits;
@@ -104,7 +104,7 @@ fn change_entry<R: Reader, L: Ledger>(
     requires room { edit.lacks_room list.now.path (Dir list.now.new) ≡ false }
     requires new { in_new ≡ true → 0 < length list.now.new }
     ensures follows { Implements R.meaning (λ u. edits.new) session.old session.new
-        (adding edits.old (change_of list.now.path name.now in_old in_new)) result }
+        (adding edits.old (change_at_name list.now.path name.now in_old in_new)) result }
 {
     if !in_new {
         return clear_entry(session, &list.path, name, edits);

@@ -22,8 +22,8 @@ use Rattle.fx_outside.proofs.Sorted.{both, first, second, is_less, less_test}
 use Rattle.fx_outside.proofs.Trees.{name_total, name_same, parts_total, parts_same, true_test}
 use Rattle.fx_folder.specs.declared.walking.Item.{Item}
 use Rattle.fx_table.specs.Places.{rest_of}
-use Rattle.fx_folder.specs.Deep.{Held, inside, held_below, all_below, walked, is_table}
-use Rattle.fx_folder.specs.Walks.{item, items_of, item_path, in_table, bytes_in, held_of, behind, branch, ahead, IsThere, AreThere}
+use Rattle.fx_folder.specs.Deep.{Held, inside, held_below, all_below, walked, is_table_entry}
+use Rattle.fx_folder.specs.Walks.{item, items_of, item_path, in_table, bytes_in, held_of, below_names, branch, ahead, IsThere, AreThere}
 use Rattle.fx_folder.proofs.Filled.{none_below, none_in}
 
 -- ---- what stands below a folder is sorted, and found by its names
@@ -107,7 +107,7 @@ find_none t P = not_found [] (all_below t P) (root_below P (entries t))
 -- ---- the branches of the names of a listing
 
 abbrev block : Tree → Parts → List ℕ × HostKind → List Held
-block t P e = (e.0 ∷ [], record { kind = e.1; bytes = bytes_in t (P ++ e.0 ∷ []) }) ∷ map (behind (e.0 ∷ [])) (all_below t (P ++ e.0 ∷ []))
+block t P e = (e.0 ∷ [], record { kind = e.1; bytes = bytes_in t (P ++ e.0 ∷ []) }) ∷ map (below_names (e.0 ∷ [])) (all_below t (P ++ e.0 ∷ []))
 
 abbrev blocks : Tree → Parts → List (List ℕ × HostKind) → List Held
 blocks t P es = flat_map (block t P) es
@@ -115,24 +115,24 @@ blocks t P es = flat_map (block t P) es
 one_front : (n : List ℕ) (a b : Parts) → parts_cmp (n ∷ a) (n ∷ b) ≡ parts_cmp a b
 one_front n a b = same_front (n ∷ []) a b
 
-map_behind : (n : List ℕ) (s : Parts) (xs ys : List Held) → T (below_all parts_cmp s xs) → T (below_all parts_cmp (n ∷ s) ys) → T (below_all parts_cmp (n ∷ s) (map (behind (n ∷ [])) xs ++ ys))
+map_behind : (n : List ℕ) (s : Parts) (xs ys : List Held) → T (below_all parts_cmp s xs) → T (below_all parts_cmp (n ∷ s) ys) → T (below_all parts_cmp (n ∷ s) (map (below_names (n ∷ [])) xs ++ ys))
 map_behind n s [] ys h g = g
 map_behind n s (x ∷ xs) ys h g =
     both (is_lt (parts_cmp (n ∷ s) (n ∷ x.0))) _
     (less_test _ (one_front n s x.0 ∙ is_less _ (first (is_lt (parts_cmp s x.0)) _ h)))
     (map_behind n s xs ys (second (is_lt (parts_cmp s x.0)) _ h) g)
 
-map_sorted : (n : List ℕ) (xs ys : List Held) → T (is_sorted parts_cmp xs) → ((s : Parts) → T (below_all parts_cmp (n ∷ s) ys)) → T (is_sorted parts_cmp ys) → T (is_sorted parts_cmp (map (behind (n ∷ [])) xs ++ ys))
+map_sorted : (n : List ℕ) (xs ys : List Held) → T (is_sorted parts_cmp xs) → ((s : Parts) → T (below_all parts_cmp (n ∷ s) ys)) → T (is_sorted parts_cmp ys) → T (is_sorted parts_cmp (map (below_names (n ∷ [])) xs ++ ys))
 map_sorted n [] ys h g k = k
 map_sorted n (x ∷ xs) ys h g k =
-    both (below_all parts_cmp (n ∷ x.0) (map (behind (n ∷ [])) xs ++ ys)) _
+    both (below_all parts_cmp (n ∷ x.0) (map (below_names (n ∷ [])) xs ++ ys)) _
     (map_behind n x.0 xs ys (first (below_all parts_cmp x.0 xs) _ h) (g x.0))
     (map_sorted n xs ys (second (below_all parts_cmp x.0 xs) _ h) g k)
 
 less_names : (n m : List ℕ) (s r : Parts) → name_cmp n m ≡ Less → parts_cmp (n ∷ s) (m ∷ r) ≡ Less
 less_names n m s r less = ap (λ o. ordering_then o (parts_cmp s r)) less
 
-map_after : (n m : List ℕ) (s : Parts) (xs ys : List Held) → name_cmp n m ≡ Less → T (below_all parts_cmp (n ∷ s) ys) → T (below_all parts_cmp (n ∷ s) (map (behind (m ∷ [])) xs ++ ys))
+map_after : (n m : List ℕ) (s : Parts) (xs ys : List Held) → name_cmp n m ≡ Less → T (below_all parts_cmp (n ∷ s) ys) → T (below_all parts_cmp (n ∷ s) (map (below_names (m ∷ [])) xs ++ ys))
 map_after n m s [] ys less g = g
 map_after n m s (x ∷ xs) ys less g = both (is_lt (parts_cmp (n ∷ s) (m ∷ x.0))) _ (less_test _ (less_names n m s x.0 less)) (map_after n m s xs ys less g)
 
@@ -148,14 +148,14 @@ module _ (t : Tree) (P : Parts) where
   blocks_sorted [] h = tt
   blocks_sorted (e ∷ es) h =
       let below = first (below_all name_cmp e.0 es) _ h in
-      both (below_all parts_cmp (e.0 ∷ []) (map (behind (e.0 ∷ [])) (all_below t (P ++ e.0 ∷ [])) ++ blocks t P es)) _
+      both (below_all parts_cmp (e.0 ∷ []) (map (below_names (e.0 ∷ [])) (all_below t (P ++ e.0 ∷ [])) ++ blocks t P es)) _
       (map_behind e.0 [] (all_below t (P ++ e.0 ∷ [])) (blocks t P es) (root_below (P ++ e.0 ∷ []) (entries t)) (blocks_after e.0 [] es below))
       (map_sorted e.0 (all_below t (P ++ e.0 ∷ [])) (blocks t P es) (all_sorted t (P ++ e.0 ∷ [])) (λ s. blocks_after e.0 s es below) (blocks_sorted es (second (below_all name_cmp e.0 es) _ h)))
 
-  find_front : (n : List ℕ) (r : Parts) (xs ys : List Held) → find parts_cmp (n ∷ r) ys ≡ None → find parts_cmp (n ∷ r) (map (behind (n ∷ [])) xs ++ ys) ≡ find parts_cmp r xs
+  find_front : (n : List ℕ) (r : Parts) (xs ys : List Held) → find parts_cmp (n ∷ r) ys ≡ None → find parts_cmp (n ∷ r) (map (below_names (n ∷ [])) xs ++ ys) ≡ find parts_cmp r xs
   find_front n r [] ys none = none
   find_front n r (x ∷ xs) ys none =
-      ap (λ o. cond (is_eq o) (Some x.1) (find parts_cmp (n ∷ r) (map (behind (n ∷ [])) xs ++ ys))) (one_front n r x.0)
+      ap (λ o. cond (is_eq o) (Some x.1) (find parts_cmp (n ∷ r) (map (below_names (n ∷ [])) xs ++ ys))) (one_front n r x.0)
       ∙ ap (λ f. cond (eq_by_cmp parts_cmp r x.0) (Some x.1) f) (find_front n r xs ys none)
 
   apart_names : (n m : List ℕ) (r s : Parts) → eq_by_cmp name_cmp n m ≡ false → eq_by_cmp parts_cmp (n ∷ r) (m ∷ s) ≡ false
@@ -166,9 +166,9 @@ module _ (t : Tree) (P : Parts) where
       by Equal e = cc
       by Greater e = refl
 
-  find_other : (n m : List ℕ) (r : Parts) (xs ys : List Held) → eq_by_cmp name_cmp n m ≡ false → find parts_cmp (n ∷ r) (map (behind (m ∷ [])) xs ++ ys) ≡ find parts_cmp (n ∷ r) ys
+  find_other : (n m : List ℕ) (r : Parts) (xs ys : List Held) → eq_by_cmp name_cmp n m ≡ false → find parts_cmp (n ∷ r) (map (below_names (m ∷ [])) xs ++ ys) ≡ find parts_cmp (n ∷ r) ys
   find_other n m r [] ys apart = refl
-  find_other n m r (x ∷ xs) ys apart = ap (λ b. cond b (Some x.1) (find parts_cmp (n ∷ r) (map (behind (m ∷ [])) xs ++ ys))) (apart_names n m r x.0 apart) ∙ find_other n m r xs ys apart
+  find_other n m r (x ∷ xs) ys apart = ap (λ b. cond b (Some x.1) (find parts_cmp (n ∷ r) (map (below_names (m ∷ [])) xs ++ ys))) (apart_names n m r x.0 apart) ∙ find_other n m r xs ys apart
 
   -- what is found at names in the branches, by the kind that the listing gives the first of them
   abbrev found_at : List ℕ → Parts → Option HostKind → Option Entry
@@ -177,9 +177,9 @@ module _ (t : Tree) (P : Parts) where
   found_at n (b ∷ r) (Some kind) = find parts_cmp (b ∷ r) (all_below t (P ++ n ∷ []))
 
   itself : (n : List ℕ) (k : HostKind) (ys : List Held) → ((s : Parts) → find parts_cmp (n ∷ s) ys ≡ None) → (r : Parts) → find parts_cmp (n ∷ r) (block t P (n, k) ++ ys) ≡ found_at n r (Some k)
-  itself n k ys none [] = ap (λ o. cond (is_eq o) (Some (record { kind = k; bytes = bytes_in t (P ++ n ∷ []) })) (find parts_cmp (n ∷ []) (map (behind (n ∷ [])) (all_below t (P ++ n ∷ [])) ++ ys))) (one_front n [] [])
+  itself n k ys none [] = ap (λ o. cond (is_eq o) (Some (record { kind = k; bytes = bytes_in t (P ++ n ∷ []) })) (find parts_cmp (n ∷ []) (map (below_names (n ∷ [])) (all_below t (P ++ n ∷ [])) ++ ys))) (one_front n [] [])
   itself n k ys none (b ∷ r) =
-      ap (λ o. cond (is_eq o) (Some (record { kind = k; bytes = bytes_in t (P ++ n ∷ []) })) (find parts_cmp (n ∷ b ∷ r) (map (behind (n ∷ [])) (all_below t (P ++ n ∷ [])) ++ ys))) (one_front n (b ∷ r) [])
+      ap (λ o. cond (is_eq o) (Some (record { kind = k; bytes = bytes_in t (P ++ n ∷ []) })) (find parts_cmp (n ∷ b ∷ r) (map (below_names (n ∷ [])) (all_below t (P ++ n ∷ [])) ++ ys))) (one_front n (b ∷ r) [])
       ∙ find_front n (b ∷ r) (all_below t (P ++ n ∷ [])) ys (none (b ∷ r))
 
   find_blocks : (n : List ℕ) (r : Parts) (es : List (List ℕ × HostKind)) → T (is_sorted name_cmp es) → find parts_cmp (n ∷ r) (blocks t P es) ≡ found_at n r (find name_cmp n es)
@@ -191,7 +191,7 @@ module _ (t : Tree) (P : Parts) where
         subst (λ m. find parts_cmp (n ∷ r) (block t P (m, e.1) ++ blocks t P es) ≡ found_at n r (Some e.1)) it (itself n e.1 (blocks t P es) none r)
         ∙ ap (λ b. found_at n r (cond b (Some e.1) (find name_cmp n es))) (sym same)
     | inr apart ↦
-        ap (λ b. cond b (Some (record { kind = e.1; bytes = bytes_in t (P ++ e.0 ∷ []) })) (find parts_cmp (n ∷ r) (map (behind (e.0 ∷ [])) (all_below t (P ++ e.0 ∷ [])) ++ blocks t P es))) (apart_names n e.0 r [] apart)
+        ap (λ b. cond b (Some (record { kind = e.1; bytes = bytes_in t (P ++ e.0 ∷ []) })) (find parts_cmp (n ∷ r) (map (below_names (e.0 ∷ [])) (all_below t (P ++ e.0 ∷ [])) ++ blocks t P es))) (apart_names n e.0 r [] apart)
         ∙ find_other n e.0 r (all_below t (P ++ e.0 ∷ [])) (blocks t P es) apart
         ∙ find_blocks n r es (second (below_all name_cmp e.0 es) _ h)
         ∙ ap (λ b. found_at n r (cond b (Some e.1) (find name_cmp n es))) (sym apart)
@@ -204,7 +204,7 @@ found_same t whole P n (b ∷ r) None is =
 found_same t whole P n [] (Some e) is = ap (λ o. Some (record { kind = e.kind; bytes = option_map_or (λ (x : Entry). x.bytes) o [] })) is ∙ sym is
 found_same t whole P n (b ∷ r) (Some e) is = find_below t (P ++ n ∷ []) b r ∙ ap (get t) (append_assoc P (n ∷ []) (b ∷ r))
 
-no_root : (n : List ℕ) (xs ys : List Held) → find parts_cmp [] ys ≡ None → find parts_cmp [] (map (behind (n ∷ [])) xs ++ ys) ≡ None
+no_root : (n : List ℕ) (xs ys : List Held) → find parts_cmp [] ys ≡ None → find parts_cmp [] (map (below_names (n ∷ [])) xs ++ ys) ≡ None
 no_root n [] ys none = none
 no_root n (x ∷ xs) ys none = no_root n xs ys none
 
@@ -224,23 +224,23 @@ below_blocks t whole P names lists =
 
 -- ---- the items of a folder
 
-behind_twice : (p : Parts) (n : List ℕ) (xs : List Held) → map (behind p) (map (behind (n ∷ [])) xs) ≡ map (behind (p ++ n ∷ [])) xs
+behind_twice : (p : Parts) (n : List ℕ) (xs : List Held) → map (below_names p) (map (below_names (n ∷ [])) xs) ≡ map (below_names (p ++ n ∷ [])) xs
 behind_twice p n [] = refl
-behind_twice p n (x ∷ xs) = ap (λ q. (q, x.1) ∷ map (behind p) (map (behind (n ∷ [])) xs)) (sym (append_assoc p (n ∷ []) x.0)) ∙ ap (λ l. behind (p ++ n ∷ []) x ∷ l) (behind_twice p n xs)
+behind_twice p n (x ∷ xs) = ap (λ q. (q, x.1) ∷ map (below_names p) (map (below_names (n ∷ [])) xs)) (sym (append_assoc p (n ∷ []) x.0)) ∙ ap (λ l. below_names (p ++ n ∷ []) x ∷ l) (behind_twice p n xs)
 
-block_branch : (t : Tree) (at p : Parts) (e : List ℕ × HostKind) → map (behind p) (block t (at ++ p) e) ≡ branch t at (item p e)
+block_branch : (t : Tree) (at p : Parts) (e : List ℕ × HostKind) → map (below_names p) (block t (at ++ p) e) ≡ branch t at (item p e)
 block_branch t at p e =
     ap (λ l. (p ++ e.0 ∷ [], record { kind = e.1; bytes = bytes_in t ((at ++ p) ++ e.0 ∷ []) }) ∷ l) (behind_twice p e.0 (all_below t ((at ++ p) ++ e.0 ∷ [])))
-    ∙ ap (λ q. (p ++ e.0 ∷ [], record { kind = e.1; bytes = bytes_in t q }) ∷ map (behind (p ++ e.0 ∷ [])) (all_below t q)) (append_assoc at p (e.0 ∷ []))
+    ∙ ap (λ q. (p ++ e.0 ∷ [], record { kind = e.1; bytes = bytes_in t q }) ∷ map (below_names (p ++ e.0 ∷ [])) (all_below t q)) (append_assoc at p (e.0 ∷ []))
 
 abbrev branches : Tree → Parts → Parts → List (List ℕ × HostKind) → List Held
 branches t at p es = flat_map (λ e. branch t at (item p e)) es
 
-blocks_branches : (t : Tree) (at p : Parts) (es : List (List ℕ × HostKind)) → map (behind p) (blocks t (at ++ p) es) ≡ branches t at p es
+blocks_branches : (t : Tree) (at p : Parts) (es : List (List ℕ × HostKind)) → map (below_names p) (blocks t (at ++ p) es) ≡ branches t at p es
 blocks_branches t at p [] = refl
 blocks_branches t at p (e ∷ es) =
-    map-append (behind p) (block t (at ++ p) e) (blocks t (at ++ p) es)
-    ∙ ap (λ l. map (behind p) (block t (at ++ p) e) ++ l) (blocks_branches t at p es)
+    map-append (below_names p) (block t (at ++ p) e) (blocks t (at ++ p) es)
+    ∙ ap (λ l. map (below_names p) (block t (at ++ p) e) ++ l) (blocks_branches t at p es)
     ∙ ap (λ l. l ++ branches t at p es) (block_branch t at p e)
 
 pub ahead_push : (t : Tree) (at : Parts) (xs : List Item) (x : Item) → ahead t at (xs ++ x ∷ []) ≡ branch t at x ++ ahead t at xs
@@ -248,25 +248,25 @@ ahead_push t at [] x = sym (append-nil (branch t at x))
 ahead_push t at (y ∷ xs) x = ap (λ l. l ++ branch t at y) (ahead_push t at xs x) ∙ append_assoc (branch t at x) (ahead t at xs) (branch t at y)
 
 walked_append : (xs ys : List Held) → walked (xs ++ ys) ≡ walked xs ++ walked ys
-walked_append xs ys = filter-append (λ h. not (is_table h)) xs ys
+walked_append xs ys = filter-append (λ h. not (is_table_entry h)) xs ys
 
 in_table_more : (q r : Parts) → in_table q ≡ true → in_table (q ++ r) ≡ true
 in_table_more [] r e = cc
 in_table_more (x ∷ q) r e = e
 
-pub table_is : (h : Held) → is_table h ≡ in_table h.0
+pub table_is : (h : Held) → is_table_entry h ≡ in_table h.0
 table_is ([], e) = refl
 table_is (x ∷ q, e) = refl
 
-walked_none : (p : Parts) (xs : List Held) → in_table p ≡ true → walked (map (behind p) xs) ≡ []
+walked_none : (p : Parts) (xs : List Held) → in_table p ≡ true → walked (map (below_names p) xs) ≡ []
 walked_none p [] e = refl
 walked_none p (x ∷ xs) e =
-    ap (λ b. cond (not b) (behind p x ∷ walked (map (behind p) xs)) (walked (map (behind p) xs))) (table_is (behind p x) ∙ in_table_more p x.0 e)
+    ap (λ b. cond (not b) (below_names p x ∷ walked (map (below_names p) xs)) (walked (map (below_names p) xs))) (table_is (below_names p x) ∙ in_table_more p x.0 e)
     ∙ walked_none p xs e
 
 walked_branch : (t : Tree) (at : Parts) (x : Item) → in_table (item_path x) ≡ true → walked (branch t at x) ≡ []
 walked_branch t at x e =
-    let rest = map (behind (item_path x)) (all_below t (at ++ item_path x)) in
+    let rest = map (below_names (item_path x)) (all_below t (at ++ item_path x)) in
     ap (λ b. cond (not b) (held_of t at x ∷ walked rest) (walked rest)) (table_is (held_of t at x) ∙ e)
     ∙ walked_none (item_path x) (all_below t (at ++ item_path x)) e
 
@@ -348,10 +348,10 @@ there_items t at p (e ∷ es) listed = there_append t at (items_of p es) (cond (
     by false is = (record { kind = ap (λ q. option_map (λ (x : Entry). x.kind) (get t q)) (sym (append_assoc at p (e.0 ∷ []))) ∙ listed.0; walked = is }, tt)
 
 -- the items of a folder's listing are what stands below the folder
-pub items_ahead : (t : Tree) (whole : IsWhole t) (at p : Parts) (names : Names) (xs : List Item) → Lists t (at ++ p) names → walked (ahead t at (xs ++ items_of p (entries names))) ≡ walked (map (behind p) (all_below t (at ++ p)) ++ ahead t at xs)
+pub items_ahead : (t : Tree) (whole : IsWhole t) (at p : Parts) (names : Names) (xs : List Item) → Lists t (at ++ p) names → walked (ahead t at (xs ++ items_of p (entries names))) ≡ walked (map (below_names p) (all_below t (at ++ p)) ++ ahead t at xs)
 items_ahead t whole at p names xs lists =
     ahead_items t at p (entries names) xs
-    ∙ ap (λ l. walked (l ++ ahead t at xs)) (sym (blocks_branches t at p (entries names)) ∙ ap (map (behind p)) (sym (below_blocks t whole (at ++ p) names lists)))
+    ∙ ap (λ l. walked (l ++ ahead t at xs)) (sym (blocks_branches t at p (entries names)) ∙ ap (map (below_names p)) (sym (below_blocks t whole (at ++ p) names lists)))
 
 pub items_there : (t : Tree) (at p : Parts) (names : Names) (xs : List Item) → Lists t (at ++ p) names → AreThere t at xs → AreThere t at (xs ++ items_of p (entries names))
 items_there t at p names xs lists there = there_append t at xs (items_of p (entries names)) there (there_items t at p (entries names) (are_listed t (at ++ p) names (entries names) lists (all_found (entries names) (entries_sorted names))))

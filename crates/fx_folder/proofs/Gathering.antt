@@ -33,19 +33,19 @@ use Rattle.fx_table.specs.declared.fault.FolderCause.TheVariants.{BadName, Stran
 use Rattle.fx_table.specs.declared.fault.LoadFault.{LoadFault}
 use Rattle.fx_table.specs.declared.fault.LoadFault.TheVariants.{Refused, ReadFault, NoMemory}
 use Rattle.fx_folder.specs.declared.walking.Walked.{Walked}
-use Rattle.fx_folder.specs.Deep.{Held, all_below, walked, table_in, all_bytes, first_refused, refused_entry, node_of_kind, unlisted, most_in_table, unless_bad, lacking, read_lines, table_file_lines, linked, with_table, unless_refused, loaded, as_nodes}
+use Rattle.fx_folder.specs.Deep.{Held, all_below, walked, table_in, all_bytes, first_refused, refused_entry, node_of_kind, unlisted, most_in_table, unless_bad, lacking, lines_or_cause, table_file_lines, linked, with_table, unless_refused, loaded, as_nodes}
 use Rattle.fx_table.specs.Listed.{Mapped, listed, with_flag, with_flags, with_lines}
 use Rattle.fx_table.specs.Places.{place_of, table_name}
-use Rattle.fx_folder.specs.Grown.{IsFoundNode, HasDir, IsFound, AreFound}
+use Rattle.fx_folder.specs.Grown.{IsFoundNode, HasDir, IsFoundChange, AreFoundChanges}
 use Rattle.fx_folder.specs.Limits.{most_nodes, most_bytes}
-use Rattle.fx_table.specs.Shaped.{IsOfBytes, AreOfBytes, IsLeaf, IsShaped, change_of, changes_of, AreShaped}
-use Rattle.fx_table.specs.Lines.{lines_in, standing_by, AreLines, texts_of, is_over, ReadsAll, LinesCause}
+use Rattle.fx_table.specs.Shaped.{IsOfBytes, AreOfBytes, IsNodeBounded, IsTreeShaped, change_of, changes_of, AreShaped}
+use Rattle.fx_table.specs.Lines.{lines_in, standing_by, AreLines, link_bytes, is_over, ReadsAll, LinesCause}
 use Rattle.fx_table.specs.Mapped.{mapped_of, node_or_dir}
 use Rattle.fx_table.specs.Merges.{CanMerge}
 use Rattle.fx_folder.specs.RefusalLaws.{exceed_limits, HasBadLine, IsLineCause}
 use Rattle.fx_table.specs.Table.{TableLink, IsTable, over, links_among, lacks_flags, read_body}
 use Rattle.fx_table.specs.TableLaws.{BeginsWith, IsFirstBadLine}
-use Rattle.fx_folder.specs.Tables.{ReadsWhole, text_of, AnswersText, room_behind, IsJoined, AnswersFound, HasTable, items_in}
+use Rattle.fx_folder.specs.Tables.{ReadsWhole, table_text_or_cause, AnswersText, room_behind, IsJoined, AnswersFound, HasTable, items_in}
 use Rattle.fx_folder.specs.Walks.{found_as, AnswersWalk}
 use Rattle.fx_folder.proofs.Branches.{find_below}
 use Rattle.fx_table.proofs.Flagging.{bytes_flags, lines_made, lines_merge}
@@ -60,7 +60,7 @@ use Rattle.fx_folder.proofs.TableRefusals.{lines_refused, same_many}
 
 -- ---- what was found has a shape
 
-found_set : (cs : List Change) (es : List Mapped) → AllByRecursion (IsFound es) cs → cs ≡ changes_of (mapped_of cs)
+found_set : (cs : List Change) (es : List Mapped) → AllByRecursion (IsFoundChange es) cs → cs ≡ changes_of (mapped_of cs)
 found_set [] es all = refl
 found_set (c ∷ cs) es all = λ i. first c all.0 i ∷ found_set cs es all.1 i
   where
@@ -68,7 +68,7 @@ found_set (c ∷ cs) es all = λ i. first c all.0 i ∷ found_set cs es all.1 i
     by p None is = absurd is
     by p (Some node) is = refl
 
-    first : (c : Change) → IsFound es c → c ≡ change_of (c.path, node_or_dir c.node)
+    first : (c : Change) → IsFoundChange es c → c ≡ change_of (c.path, node_or_dir c.node)
     first c is = by c.path c.node is.node
 
 -- what holds of each change holds where one is found
@@ -90,21 +90,21 @@ each_at P (c ∷ cs) q node all set is = by (eq_by_cmp path_cmp q c.path) refl i
         subst (λ p. P p (Some node)) (sym (path_eq_same q c.path same)) (subst (P c.path) here all.0)
     by false other is further = further is
 
-module _ (cs : List Change) (are : AreFound cs) where
+module _ (cs : List Change) (are : AreFoundChanges cs) where
   abbrev es : List Mapped
   es = mapped_of cs
 
   set : cs ≡ changes_of (mapped_of cs)
   set = found_set cs es are.each
 
-  weaker : (P : Parts → Option Node → Type 0) → ((c : Change) → IsFound es c → P c.path c.node) → (ds : List Change) → AllByRecursion (IsFound es) ds → AllByRecursion (λ (c : Change). P c.path c.node) ds
+  weaker : (P : Parts → Option Node → Type 0) → ((c : Change) → IsFoundChange es c → P c.path c.node) → (ds : List Change) → AllByRecursion (IsFoundChange es) ds → AllByRecursion (λ (c : Change). P c.path c.node) ds
   weaker P f [] all = tt
   weaker P f (d ∷ ds) all = (f d all.0, weaker P f ds all.1)
 
-  at_path : (P : Parts → Option Node → Type 0) → ((c : Change) → IsFound es c → P c.path c.node) → (q : Parts) (node : Node) → found es q ≡ Some node → P q (Some node)
+  at_path : (P : Parts → Option Node → Type 0) → ((c : Change) → IsFoundChange es c → P c.path c.node) → (q : Parts) (node : Node) → found es q ≡ Some node → P q (Some node)
   at_path P f q node is = each_at P cs q node (weaker P f cs are.each) set is
 
-  leaf_of : (o : Option Node) → IsFoundNode o → IfSome o IsLeaf
+  leaf_of : (o : Option Node) → IsFoundNode o → IfSome o IsNodeBounded
   leaf_of None is = tt
   leaf_of (Some (File bytes exec)) is = is.short
   leaf_of (Some (Dir names)) is = tt
@@ -116,21 +116,21 @@ module _ (cs : List Change) (are : AreFound cs) where
   bytes_of (Some (Dir names)) is = tt
   bytes_of (Some (Link text)) is = tt
 
-  if_found : (P : Node → Type 0) → ((c : Change) → IsFound es c → IfSome c.node P) → (q : Parts) → IfSome (found es q) P
+  if_found : (P : Node → Type 0) → ((c : Change) → IsFoundChange es c → IfSome c.node P) → (q : Parts) → IfSome (found es q) P
   if_found P f q = by (found es q) refl
     where
       by : (o : Option Node) → found es q ≡ o → IfSome o P
       by None is = tt
       by (Some node) is = at_path (λ p o. IfSome o P) f q node is
 
-  shape : IsShaped (found es)
+  shape : IsTreeShaped (found es)
   shape = record {
     root = are.root;
     above = λ path name some.
         let there = some_of (found es (path ++ name ∷ [])) some in
         at_path (λ p o. (q : Parts) (n : List ℕ) → p ≡ q ++ n ∷ [] → HasDir es q) (λ c is q n e. is.above q n e) (path ++ name ∷ []) there.0 there.1 path name refl;
     paths = λ path some. let there = some_of (found es path) some in at_path (λ p o. IsPath p) (λ c is. is.path) path there.0 there.1;
-    leaves = if_found IsLeaf (λ c is. leaf_of c.node is.node);
+    leaves = if_found IsNodeBounded (λ c is. leaf_of c.node is.node);
   }
 
   pub found_shaped : AreShaped cs
@@ -156,7 +156,7 @@ module _ (cs : List Change) (are : AreFound cs) where
 
 -- ---- lines that are a table can be merged
 
-module _ (cs : List Change) (are : AreFound cs) (lines : List Change) (linked : AreLines (over (standing_by cs) true) lines) where
+module _ (cs : List Change) (are : AreFoundChanges cs) (lines : List Change) (linked : AreLines (over (standing_by cs) true) lines) where
   abbrev S : Store
   S = standing_by cs
 
@@ -179,7 +179,7 @@ module _ (cs : List Change) (are : AreFound cs) (lines : List Change) (linked : 
       subst AreShaped (sym is) (record {
         set = ap changes_of (sym same);
         ascending = subst (λ l. IsStrictlySortedBy path_cmp (keys_of l)) (sym same) (strictly_sorted path_cmp fs joined_lines.sorted);
-        shape = subst (λ l. IsShaped (found l)) (sym same) joined_lines.shape;
+        shape = subst (λ l. IsTreeShaped (found l)) (sym same) joined_lines.shape;
         bytes = subst (λ l. AreOfBytes (found l)) (sym same) (bytes_linked (with_flags (mapped_of cs) (lines_in lines)) (links_among (lines_in lines)) (bytes_flags (mapped_of cs) (lines_in lines) (found_shaped cs are).bytes));
       })
 
@@ -226,7 +226,7 @@ all_unflagged (h ∷ hs) = λ i. unflagged h.0 h.1.kind h.1.bytes i ∷ all_unfl
 no_lines : (hs : List Held) → with_lines (unlisted hs) [] ≡ unlisted hs
 no_lines hs = ap (λ l. ([], Dir []) ∷ l) (all_unflagged hs)
 
-module _ (t : Tree) (at : Parts) (w : Walked) (are : AreFound w.found.items) (walk : AnswersWalk t at (Ok w)) where
+module _ (t : Tree) (at : Parts) (w : Walked) (are : AreFoundChanges w.found.items) (walk : AnswersWalk t at (Ok w)) where
   abbrev hs : List Held
   hs = walked (all_below t at)
 
@@ -259,16 +259,16 @@ module _ (t : Tree) (at : Parts) (w : Walked) (are : AreFound w.found.items) (wa
 
   over_is : (ls : List TableLink) → is_over (room_behind cs w.left) ls ≡ exceed_limits hs ls
   over_is ls =
-      ap (λ b. b || nat_lt w.left (texts_of ls)) (ap (λ n. nat_lt (most_nodes - n) (length ls)) count ∙ over_count (length hs + 1) (length ls) few)
-      ∙ (ap (λ n. nat_lt most_nodes (length hs + 1 + length ls) || nat_lt n (texts_of ls)) walk.2 ∙ same_many hs fits ls)
+      ap (λ b. b || nat_lt w.left (link_bytes ls)) (ap (λ n. nat_lt (most_nodes - n) (length ls)) count ∙ over_count (length hs + 1) (length ls) few)
+      ∙ (ap (λ n. nat_lt most_nodes (length hs + 1 + length ls) || nat_lt n (link_bytes ls)) walk.2 ∙ same_many hs fits ls)
 
   -- the table's text is read
-  lines_read : (text : List ℕ) (lines : List Change) → ReadsAll ground (room_behind cs w.left) text lines → read_lines (length hs + 1) (most_bytes - all_bytes hs) U text (read_body U text) ≡ Ok (lines_in lines)
+  lines_read : (text : List ℕ) (lines : List Change) → ReadsAll ground (room_behind cs w.left) text lines → lines_or_cause (length hs + 1) (most_bytes - all_bytes hs) U text (read_body U text) ≡ Ok (lines_in lines)
   lines_read text lines reads =
       let said = lines_in lines in
       let read : read_body U text ≡ Ok said = ap (read_body U) reads.whole ∙ body_read U said (subst (λ F. IsTable F said) same_ground reads.are.table) in
       let lacks : lacks_flags text said ≡ false = ap (λ t. lacks_flags t said) reads.whole ∙ lacks_none said in
-      ap (read_lines (length hs + 1) (most_bytes - all_bytes hs) U text) read
+      ap (lines_or_cause (length hs + 1) (most_bytes - all_bytes hs) U text) read
       ∙ (ap (λ b. cond b (Err (TooLarge (place_of (table_name ∷ [])))) (unless_bad said (lacking text said))) (same_many hs fits (links_among said) ∙ (sym (over_is (links_among said)) ∙ reads.few))
       ∙ ap (λ l. unless_bad said (cond l (Some (BadTable 1)) None)) lacks)
 
@@ -314,33 +314,33 @@ module _ (t : Tree) (at : Parts) (w : Walked) (are : AreFound w.found.items) (wa
     whole_is : loaded (all_below t at) ≡ linked (unlisted hs) (table_file_lines nodes left U e.kind e.bytes)
     whole_is = loaded_is (Some e) (table_is ∙ there)
 
-    text_lines : (k : HostKind) (contents text : List ℕ) → text_of k contents ≡ Ok text → table_file_lines nodes left U k contents ≡ read_lines nodes left U text (read_body U text)
+    text_lines : (k : HostKind) (contents text : List ℕ) → table_text_or_cause k contents ≡ Ok text → table_file_lines nodes left U k contents ≡ lines_or_cause nodes left U text (read_body U text)
     text_lines kind.File contents text is = by (nat_lt most_in_table (length contents)) is
       where
-        by : (b : Bool) → cond b (Err (TooLarge (place_of (table_name ∷ [])))) (Ok contents) ≡ Ok text → cond b (Err (TooLarge (place_of (table_name ∷ [])))) (read_lines nodes left U contents (read_body U contents)) ≡ read_lines nodes left U text (read_body U text)
+        by : (b : Bool) → cond b (Err (TooLarge (place_of (table_name ∷ [])))) (Ok contents) ≡ Ok text → cond b (Err (TooLarge (place_of (table_name ∷ [])))) (lines_or_cause nodes left U contents (read_body U contents)) ≡ lines_or_cause nodes left U text (read_body U text)
         by true is = cc
-        by false is = let same : contents ≡ text = cc in ap (λ c. read_lines nodes left U c (read_body U c)) same
+        by false is = let same : contents ≡ text = cc in ap (λ c. lines_or_cause nodes left U c (read_body U c)) same
     text_lines kind.Folder contents text is = cc
     text_lines kind.Other contents text is = cc
 
-    text_cause : (k : HostKind) (contents : List ℕ) (cause : FolderCause) → text_of k contents ≡ Err cause → table_file_lines nodes left U k contents ≡ Err cause
+    text_cause : (k : HostKind) (contents : List ℕ) (cause : FolderCause) → table_text_or_cause k contents ≡ Err cause → table_file_lines nodes left U k contents ≡ Err cause
     text_cause kind.File contents cause is = by (nat_lt most_in_table (length contents)) is
       where
-        by : (b : Bool) → cond b (Err (TooLarge (place_of (table_name ∷ [])))) (Ok contents) ≡ Err cause → cond b (Err (TooLarge (place_of (table_name ∷ [])))) (read_lines nodes left U contents (read_body U contents)) ≡ Err cause
+        by : (b : Bool) → cond b (Err (TooLarge (place_of (table_name ∷ [])))) (Ok contents) ≡ Err cause → cond b (Err (TooLarge (place_of (table_name ∷ [])))) (lines_or_cause nodes left U contents (read_body U contents)) ≡ Err cause
         by true is = cc
         by false is = cc
     text_cause kind.Folder contents cause is = cc
     text_cause kind.Other contents cause is = cc
 
-    pub answers_unread : (cause : FolderCause) → text_of e.kind e.bytes ≡ Err cause → loaded (all_below t at) ≡ Err cause
+    pub answers_unread : (cause : FolderCause) → table_text_or_cause e.kind e.bytes ≡ Err cause → loaded (all_below t at) ≡ Err cause
     answers_unread cause is = whole_is ∙ ap (linked (unlisted hs)) (text_cause e.kind e.bytes cause is)
 
-    pub answers_joined : (text : List ℕ) (all : List Change) → text_of e.kind e.bytes ≡ Ok text → IsJoined cs w.left text all → loaded (all_below t at) ≡ Ok (listed (mapped_of all))
+    pub answers_joined : (text : List ℕ) (all : List Change) → table_text_or_cause e.kind e.bytes ≡ Ok text → IsJoined cs w.left text all → loaded (all_below t at) ≡ Ok (listed (mapped_of all))
     answers_joined text all is joined =
         whole_is ∙ ap (linked (unlisted hs)) (text_lines e.kind e.bytes text is ∙ lines_read text joined.lines joined.read)
         ∙ ap (λ l. Ok (listed l)) (ap (λ l. with_lines l (lines_in joined.lines)) (sym unlisted_is) ∙ sym (ap mapped_of joined.all ∙ mapped_changes (with_lines (mapped_of cs) (lines_in joined.lines))))
 
-    pub answers_stopped : (text : List ℕ) (cause : FolderCause) → text_of e.kind e.bytes ≡ Ok text → LinesCause ground (room_behind cs w.left) text (Refused cause) → loaded (all_below t at) ≡ Err cause
+    pub answers_stopped : (text : List ℕ) (cause : FolderCause) → table_text_or_cause e.kind e.bytes ≡ Ok text → LinesCause ground (room_behind cs w.left) text (Refused cause) → loaded (all_below t at) ≡ Err cause
     answers_stopped text cause is why =
         whole_is ∙ ap (linked (unlisted hs)) (text_lines e.kind e.bytes text is ∙ lines_refused hs fits U text cause (cause_of text cause why))
 
@@ -375,10 +375,10 @@ table_file (Some t) folder k here has is =
     let e = has_entry t folder k here has in
     ap (λ o. option_map_or (λ (x : Entry). is_file_kind x.kind) o false) (entry_table t folder here ∙ e.there) ∙ ap is_file_kind (e.kind ∙ is)
 
-text_here : (t : Tree) (folder : List ℕ) (k : HostKind) (e : HasEntry t folder k) (answer : Result (List ℕ) FolderCause) → text_of k (bytes_at t (path_below folder table_name)) ≡ answer → text_of e.entry.kind e.entry.bytes ≡ answer
-text_here t folder k e answer is = ap (λ x. text_of x e.entry.bytes) e.kind ∙ (ap (text_of k) (sym e.bytes) ∙ is)
+text_here : (t : Tree) (folder : List ℕ) (k : HostKind) (e : HasEntry t folder k) (answer : Result (List ℕ) FolderCause) → table_text_or_cause k (bytes_at t (path_below folder table_name)) ≡ answer → table_text_or_cause e.entry.kind e.entry.bytes ≡ answer
+text_here t folder k e answer is = ap (λ x. table_text_or_cause x e.entry.bytes) e.kind ∙ (ap (table_text_or_cause k) (sym e.bytes) ∙ is)
 
-pub joined_told : (told : Option Tree) (folder : List ℕ) (k : HostKind) (w : Walked) (text : List ℕ) (r : Result (Vec Change Global) LoadFault) → AreFound w.found.items → IfSome told (λ t. is_folder_at t folder ≡ true) → IfSome told (λ t. HasTable t (parts folder) k) → IfSome told (λ t. AnswersWalk t (parts folder) (Ok w)) → IfSome told (λ t. AnswersText (text_of k (bytes_at t (path_below folder table_name))) (Ok text))
+pub joined_told : (told : Option Tree) (folder : List ℕ) (k : HostKind) (w : Walked) (text : List ℕ) (r : Result (Vec Change Global) LoadFault) → AreFoundChanges w.found.items → IfSome told (λ t. is_folder_at t folder ≡ true) → IfSome told (λ t. HasTable t (parts folder) k) → IfSome told (λ t. AnswersWalk t (parts folder) (Ok w)) → IfSome told (λ t. AnswersText (table_text_or_cause k (bytes_at t (path_below folder table_name))) (Ok text))
     → IfOk r (λ all. IsJoined w.found.items w.left text all.items) → IfErr r (LinesCause (standing_by w.found.items) (room_behind w.found.items w.left) text) → IfSome told (λ t. AnswersFound t (parts folder) (items_in r))
 joined_told None folder k w text r are here has walk answer joined cause = tt
 joined_told (Some t) folder k w text (Ok all) are here has walk answer joined cause =
@@ -390,7 +390,7 @@ joined_told (Some t) folder k w text (Err (Refused why)) are here has walk answe
 joined_told (Some t) folder k w text (Err ReadFault) are here has walk answer joined cause = tt
 joined_told (Some t) folder k w text (Err NoMemory) are here has walk answer joined cause = tt
 
-pub unread_told : (told : Option Tree) (folder : List ℕ) (k : HostKind) (w : Walked) (fault : LoadFault) → AreFound w.found.items → IfSome told (λ t. is_folder_at t folder ≡ true) → IfSome told (λ t. HasTable t (parts folder) k) → IfSome told (λ t. AnswersWalk t (parts folder) (Ok w)) → IfSome told (λ t. AnswersText (text_of k (bytes_at t (path_below folder table_name))) (Err fault))
+pub unread_told : (told : Option Tree) (folder : List ℕ) (k : HostKind) (w : Walked) (fault : LoadFault) → AreFoundChanges w.found.items → IfSome told (λ t. is_folder_at t folder ≡ true) → IfSome told (λ t. HasTable t (parts folder) k) → IfSome told (λ t. AnswersWalk t (parts folder) (Ok w)) → IfSome told (λ t. AnswersText (table_text_or_cause k (bytes_at t (path_below folder table_name))) (Err fault))
     → IfSome told (λ t. AnswersFound t (parts folder) (Err fault))
 unread_told None folder k w fault are here has walk answer = tt
 unread_told (Some t) folder k w (Refused cause) are here has walk answer =
@@ -399,7 +399,7 @@ unread_told (Some t) folder k w (Refused cause) are here has walk answer =
 unread_told (Some t) folder k w ReadFault are here has walk answer = tt
 unread_told (Some t) folder k w NoMemory are here has walk answer = tt
 
-pub bare_told : (told : Option Tree) (at : Parts) (w : Walked) (names : Names) (all : List Change) → AreFound w.found.items → IfSome told (λ t. Lists t at names) → IfSome told (λ t. AnswersWalk t at (Ok w)) → None ≡ get names table_name → all ≡ w.found.items → IfSome told (λ t. AnswersFound t at (Ok all))
+pub bare_told : (told : Option Tree) (at : Parts) (w : Walked) (names : Names) (all : List Change) → AreFoundChanges w.found.items → IfSome told (λ t. Lists t at names) → IfSome told (λ t. AnswersWalk t at (Ok w)) → None ≡ get names table_name → all ≡ w.found.items → IfSome told (λ t. AnswersFound t at (Ok all))
 bare_told None at w names all are lists walk none is = tt
 bare_told (Some t) at w names all are lists walk none is =
     answers_bare t at w are walk (by (get t (at ++ table_name ∷ [])) (sym (lists table_name) ∙ sym none)) ∙ ap (λ l. Ok (listed (mapped_of l))) (sym is)
@@ -423,14 +423,14 @@ not_above n m le = grind (arith, nat_tests)
 is_above : (n m : ℕ) → m < n → nat_lt m n ≡ true
 is_above n m lt = grind (arith, nat_tests)
 
-pub text_read : (told : Option Tree) (p q : List ℕ) (text : List ℕ) → q ≡ p → IfSome told (λ t. ReadsWhole most_in_table (bytes_at t q) (Some text)) → IfSome told (λ t. AnswersText (text_of kind.File (bytes_at t p)) (Ok text))
+pub text_read : (told : Option Tree) (p q : List ℕ) (text : List ℕ) → q ≡ p → IfSome told (λ t. ReadsWhole most_in_table (bytes_at t q) (Some text)) → IfSome told (λ t. AnswersText (table_text_or_cause kind.File (bytes_at t p)) (Ok text))
 text_read None p q text same reads = tt
 text_read (Some t) p q text same reads =
     let short = not_above (length (bytes_at t q)) most_in_table reads.0 in
-    subst (λ r. text_of kind.File (bytes_at t r) ≡ Ok text) same (ap (λ b. cond b (Err (TooLarge (place_of (table_name ∷ [])))) (Ok (bytes_at t q))) short ∙ ap Ok (sym reads.1))
+    subst (λ r. table_text_or_cause kind.File (bytes_at t r) ≡ Ok text) same (ap (λ b. cond b (Err (TooLarge (place_of (table_name ∷ [])))) (Ok (bytes_at t q))) short ∙ ap Ok (sym reads.1))
 
-pub text_of_file : (told : Option Tree) (p : List ℕ) (k : HostKind) (r : Result (List ℕ) LoadFault) → k ≡ kind.File → IfSome told (λ t. AnswersText (text_of kind.File (bytes_at t p)) r) → IfSome told (λ t. AnswersText (text_of k (bytes_at t p)) r)
-text_of_file told p k r is answer = subst (λ x. IfSome told (λ t. AnswersText (text_of x (bytes_at t p)) r)) (sym is) answer
+pub text_of_file : (told : Option Tree) (p : List ℕ) (k : HostKind) (r : Result (List ℕ) LoadFault) → k ≡ kind.File → IfSome told (λ t. AnswersText (table_text_or_cause kind.File (bytes_at t p)) r) → IfSome told (λ t. AnswersText (table_text_or_cause k (bytes_at t p)) r)
+text_of_file told p k r is answer = subst (λ x. IfSome told (λ t. AnswersText (table_text_or_cause x (bytes_at t p)) r)) (sym is) answer
 
 pub lists_told : (told : Option Tree) (folder : List ℕ) (names : Names) → IfSome told (λ t. (is_folder_at t folder ≡ true) × Lists t (parts folder) names) → IfSome told (λ t. Lists t (parts folder) names)
 lists_told None folder names lists = tt

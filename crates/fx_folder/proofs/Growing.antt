@@ -29,7 +29,7 @@ use Rattle.fx_table.specs.Table.{is_dir}
 use Rattle.fx_table.specs.declared.fault.LoadFault.{LoadFault}
 use Rattle.fx_folder.specs.Walks.{item, item_path, items_of, in_table, root_found, AddsItems}
 use Rattle.fx_outside.specs.Tree.{Tree}
-use Rattle.fx_folder.specs.Grown.{IsFoundNode, HasDir, IsFound, AreFound, paths_ahead, IsGrown, Finds}
+use Rattle.fx_folder.specs.Grown.{IsFoundNode, HasDir, IsFoundChange, AreFoundChanges, paths_ahead, IsGrown, FindsItem}
 use Rattle.fx_folder.proofs.Ways.{root_pushed}
 
 abbrev AllAbove : Parts → List Parts → Type 0
@@ -56,14 +56,14 @@ dir_append (e ∷ es) fs p is = by (eq_by_cmp path_cmp p e.0) (dir_append es fs 
 dir_more : (cs ds : List Change) (p : Parts) → HasDir (mapped_of cs) p → HasDir (mapped_of (cs ++ ds)) p
 dir_more cs ds p is = subst (λ l. HasDir l p) (sym (mapped_append cs ds)) (dir_append (mapped_of cs) (mapped_of ds) p is)
 
-found_more : (cs ds : List Change) (c : Change) → IsFound (mapped_of cs) c → IsFound (mapped_of (cs ++ ds)) c
+found_more : (cs ds : List Change) (c : Change) → IsFoundChange (mapped_of cs) c → IsFoundChange (mapped_of (cs ++ ds)) c
 found_more cs ds c is = record { path = is.path; node = is.node; above = λ path name at. dir_more cs ds path (is.above path name at) }
 
-each_more : (cs ds es : List Change) → AllByRecursion (IsFound (mapped_of cs)) es → AllByRecursion (IsFound (mapped_of (cs ++ ds))) es
+each_more : (cs ds es : List Change) → AllByRecursion (IsFoundChange (mapped_of cs)) es → AllByRecursion (IsFoundChange (mapped_of (cs ++ ds))) es
 each_more cs ds [] all = tt
 each_more cs ds (c ∷ es) all = (found_more cs ds c all.0, each_more cs ds es all.1)
 
-each_push : (es : List Mapped) (cs : List Change) (c : Change) → AllByRecursion (IsFound es) cs → IsFound es c → AllByRecursion (IsFound es) (cs ++ c ∷ [])
+each_push : (es : List Mapped) (cs : List Change) (c : Change) → AllByRecursion (IsFoundChange es) cs → IsFoundChange es c → AllByRecursion (IsFoundChange es) (cs ++ c ∷ [])
 each_push es [] c all one = (one, tt)
 each_push es (d ∷ cs) c all one = (all.0, each_push es cs c all.1 one)
 
@@ -257,7 +257,7 @@ dir_last (e ∷ es) p rs up = by (eq_by_cmp path_cmp p e.0) refl (dir_last es p 
     by true same rest = absurd (not_before p [] (ap (λ l. path_cmp l p) (append-nil p) ∙ (ap (λ l. path_cmp l p) (path_is p e.0 same) ∙ before_last e.0 p (keys_of es) rs up.0)))
     by false apart rest = rest
 
-module _ (found : List Change) (todo todo' : List Item) (x : Item) (c : Change) (was : IsGrown found (todo ++ x ∷ [])) (finds : Finds x todo todo' c) where
+module _ (found : List Change) (todo todo' : List Item) (x : Item) (c : Change) (was : IsGrown found (todo ++ x ∷ [])) (finds : FindsItem x todo todo' c) where
   abbrev es : List Mapped
   es = mapped_of found
 
@@ -273,7 +273,7 @@ module _ (found : List Change) (todo todo' : List Item) (x : Item) (c : Change) 
   here : HasDir es x.parent
   here = (all_end (λ (y : Item). HasDir es y.parent) todo (x ∷ []) was.stand).0
 
-  is_found : IsFound (mapped_of (found ++ c ∷ [])) c
+  is_found : IsFoundChange (mapped_of (found ++ c ∷ [])) c
   is_found = record {
     path = finds.valid;
     node = finds.node;
@@ -327,7 +327,7 @@ grows_start names = record {
     no_path (n ∷ path) name e = cc
 
 -- all is walked
-pub grown : (found : List Change) → IsGrown found [] → AreFound found
+pub grown : (found : List Change) → IsGrown found [] → AreFoundChanges found
 grown found is = record {
   root = is.root;
   each = is.each;
@@ -340,10 +340,10 @@ begin_grown names found start todo first p q ns f s b c d e g =
     let there : todo ≡ items_of [] (entries names) = d ∙ (ap (λ l. l ++ items_of p (entries names)) e ∙ ap (λ r. items_of r (entries names)) g) in
     subst (λ l. IsGrown l todo) (sym here) (subst (IsGrown (root_found ∷ [])) (sym there) (grows_start names))
 
-pub grows_to : (found new : List Change) (todo todo' : List Item) (x : Item) (c : Change) → new ≡ found ++ c ∷ [] → IsGrown found (todo ++ x ∷ []) → Finds x todo todo' c → IsGrown new todo'
+pub grows_to : (found new : List Change) (todo todo' : List Item) (x : Item) (c : Change) → new ≡ found ++ c ∷ [] → IsGrown found (todo ++ x ∷ []) → FindsItem x todo todo' c → IsGrown new todo'
 grows_to found new todo todo' x c is was finds = subst (λ l. IsGrown l todo') (sym is) (grows found todo todo' x c was finds)
 
-pub finds_file : (x : Item) (todo todo' : List Item) (p : Parts) (c : Change) → IsPath p → p ≡ item_path x → todo' ≡ todo → (c.path ≡ p) × IsFoundNode c.node → Finds x todo todo' c
+pub finds_file : (x : Item) (todo todo' : List Item) (p : Parts) (c : Change) → IsPath p → p ≡ item_path x → todo' ≡ todo → (c.path ≡ p) × IsFoundNode c.node → FindsItem x todo todo' c
 finds_file x todo todo' p c path at same is = record {
   path = is.0 ∙ at;
   valid = subst IsPath (sym is.0) path;
@@ -353,13 +353,13 @@ finds_file x todo todo' p c path at same is = record {
   inside = inl entries_none;
 }
 
-pub finds_folder : (x : Item) (todo todo' : List Item) (p : Parts) (c : Change) (names : Names) → IsPath p → p ≡ item_path x → c ≡ record { path = p; node = Some (Dir []) } → todo' ≡ todo ++ items_of p (entries names) → Finds x todo todo' c
-finds_folder x todo todo' p c names path at is same = subst (Finds x todo todo') (sym is) (record { path = at; valid = path; node = refl; names = names; more = same; inside = inr refl })
+pub finds_folder : (x : Item) (todo todo' : List Item) (p : Parts) (c : Change) (names : Names) → IsPath p → p ≡ item_path x → c ≡ record { path = p; node = Some (Dir []) } → todo' ≡ todo ++ items_of p (entries names) → FindsItem x todo todo' c
+finds_folder x todo todo' p c names path at is same = subst (FindsItem x todo todo') (sym is) (record { path = at; valid = path; node = refl; names = names; more = same; inside = inr refl })
 
-pub file_found : (x : Item) (todo : List Item) (p : Parts) (r : Result Change LoadFault) → IsPath p → p ≡ item_path x → IfOk r (λ c. (c.path ≡ p) × IsFoundNode c.node) → IfOk r (Finds x todo todo)
+pub file_found : (x : Item) (todo : List Item) (p : Parts) (r : Result Change LoadFault) → IsPath p → p ≡ item_path x → IfOk r (λ c. (c.path ≡ p) × IsFoundNode c.node) → IfOk r (FindsItem x todo todo)
 file_found x todo p (Ok c) path at is = finds_file x todo todo p c path at refl is
 file_found x todo p (Err fault) path at is = tt
 
-pub folder_found : (told : Option Tree) (text : List ℕ) (x : Item) (todo todo' : List Item) (p : Parts) (r : Result Change LoadFault) → IsPath p → p ≡ item_path x → IfOk r (λ c. c ≡ record { path = p; node = Some (Dir []) }) → OnOk r (AddsItems told text p todo todo') → IfOk r (Finds x todo todo')
+pub folder_found : (told : Option Tree) (text : List ℕ) (x : Item) (todo todo' : List Item) (p : Parts) (r : Result Change LoadFault) → IsPath p → p ≡ item_path x → IfOk r (λ c. c ≡ record { path = p; node = Some (Dir []) }) → OnOk r (AddsItems told text p todo todo') → IfOk r (FindsItem x todo todo')
 folder_found told text x todo todo' p (Ok c) path at is adds = finds_folder x todo todo' p c adds.0 path at is adds.1
 folder_found told text x todo todo' p (Err fault) path at is adds = tt

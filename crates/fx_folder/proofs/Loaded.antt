@@ -31,13 +31,13 @@ use Rattle.fx_folder.specs.Loads.{most_nodes, most_in_file, most_bytes, Loads, I
 use Rattle.fx_table.specs.Places.{table_name}
 use Rattle.fx_table.specs.declared.line.TableLine.{TableLine}
 use Rattle.fx_table.specs.Table.{IsLine, IsTable, over, has_place, is_dir, setting_of, first_number, body_of, is_second, read_body, lines_before, links_among}
-use Rattle.fx_folder.specs.Deep.{Held, all_below, walked, table_in, last_name, refused_kind, refused_bytes, refused_entry, first_refused, node_of_kind, unlisted, unless_bad, are_too_many, lacking, read_lines, table_file_lines, table_lines, linked, all_bytes, with_table, unless_refused, as_nodes}
+use Rattle.fx_folder.specs.Deep.{Held, all_below, walked, table_in, last_name, refused_kind, refused_bytes, refused_entry, first_refused, node_of_kind, unlisted, unless_bad, are_too_many, lacking, lines_or_cause, table_file_lines, table_lines, linked, all_bytes, with_table, unless_refused, as_nodes}
 use Rattle.fx_table.specs.Listed.{Mapped, with_lines, listed}
 use Rattle.fx_folder.specs.LoadLaws.{LoadsAreWhole}
 use Rattle.fx_table.specs.Shaped.{IsOfBytes, AreOfBytes}
 use Rattle.fx_table.proofs.TableLines.{texts_are_lines}
 use Rattle.fx_table.proofs.Versions.{over_all}
-use Rattle.fx_table.proofs.Shapes.{found, IsLeaf, listed_whole, find_listed, relisted}
+use Rattle.fx_table.proofs.Shapes.{found, IsNodeBounded, listed_whole, find_listed, relisted}
 use Rattle.fx_table.proofs.Flagging.{lines_made}
 use Rattle.fx_table.proofs.Linking.{IsLinked}
 use Rattle.fx_folder.proofs.Walked.{below_sorted, below_root, find_walked_below}
@@ -196,19 +196,19 @@ module _ (tree : Tree) (whole : host.IsWhole tree) (P : Paths) where
     path_walked [] some = record { names = All-nil IsName; short = omega arith }
     path_walked (a ∷ p) some = record { names = all_names (length (a ∷ p)) (a ∷ p) refl some; short = (accepted_at a p some).1.short }
 
-    leaf_of : (q : Paths) (e : Entry) → IsAccepted q e → IsLeaf (node_of e)
+    leaf_of : (q : Paths) (e : Entry) → IsAccepted q e → IsNodeBounded (node_of e)
     leaf_of q e accepted = by e.kind refl
       where
-        by : (k : HostKind) → e.kind ≡ k → IsLeaf (node_of_kind k e.bytes)
+        by : (k : HostKind) → e.kind ≡ k → IsNodeBounded (node_of_kind k e.bytes)
         by kind.File is = accepted.small
         by kind.Folder is = tt
         by kind.Other is = absurd (accepted.known is)
 
-    leaf_at : (p : Paths) → IfSome (found (unlisted hs) p) IsLeaf
+    leaf_at : (p : Paths) → IfSome (found (unlisted hs) p) IsNodeBounded
     leaf_at [] = tt
-    leaf_at (a ∷ p) = subst (λ o. IfSome o IsLeaf) (sym (find_unlisted hs a p)) (by (find parts_cmp (a ∷ p) hs) refl)
+    leaf_at (a ∷ p) = subst (λ o. IfSome o IsNodeBounded) (sym (find_unlisted hs a p)) (by (find parts_cmp (a ∷ p) hs) refl)
       where
-        by : (o : Option Entry) → find parts_cmp (a ∷ p) hs ≡ o → IfSome (option_map node_of o) IsLeaf
+        by : (o : Option Entry) → find parts_cmp (a ∷ p) hs ≡ o → IfSome (option_map node_of o) IsNodeBounded
         by None is = tt
         by (Some e) is = leaf_of (a ∷ p) e (all_accepted 1 most_bytes hs none (a ∷ p) e is)
 
@@ -234,7 +234,7 @@ pub some_bad : (b : Bool) (c d : FolderCause) (lines made : List TableLine) → 
 some_bad true c d lines made e = cc
 some_bad false c d lines made e = cc
 
-read_made : (nodes left : ℕ) (S : Store) (text : List ℕ) (r : Result (List TableLine) ℕ) (lines : List TableLine) → read_body S text ≡ r → read_lines nodes left S text r ≡ Ok lines → IsTable S lines
+read_made : (nodes left : ℕ) (S : Store) (text : List ℕ) (r : Result (List TableLine) ℕ) (lines : List TableLine) → read_body S text ≡ r → lines_or_cause nodes left S text r ≡ Ok lines → IsTable S lines
 read_made nodes left S text (Ok found) lines is e =
     let same : found ≡ lines = not_bad (are_too_many nodes left (links_among found)) _ (lacking text found) found lines e in
     let spells = texts_are_lines (setting_of S text) (first_number text) (body_of text) found is in
@@ -246,7 +246,7 @@ unless_large true c r lines e = cc
 unless_large false c r lines e = e
 
 file_made : (nodes left : ℕ) (S : Store) (k : HostKind) (text : List ℕ) (lines : List TableLine) → table_file_lines nodes left S k text ≡ Ok lines → IsTable S lines
-file_made nodes left S kind.File text lines e = read_made nodes left S text (read_body S text) lines refl (unless_large _ _ (read_lines nodes left S text (read_body S text)) lines e)
+file_made nodes left S kind.File text lines e = read_made nodes left S text (read_body S text) lines refl (unless_large _ _ (lines_or_cause nodes left S text (read_body S text)) lines e)
 file_made nodes left S kind.Folder text lines e = cc
 file_made nodes left S kind.Other text lines e = cc
 

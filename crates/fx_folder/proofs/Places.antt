@@ -26,10 +26,10 @@ use Rattle.fx_table.specs.declared.fault.FolderCause.TheVariants.{TooLarge}
 use Rattle.fx_table.specs.declared.fault.LoadFault.{LoadFault}
 use Rattle.fx_table.specs.declared.fault.LoadFault.TheVariants.{Refused, ReadFault, NoMemory}
 use Rattle.fx_folder.specs.Limits.{most_nodes, most_in_file}
-use Rattle.fx_folder.specs.Reads.{path_below, place, refused_size}
+use Rattle.fx_folder.specs.Reads.{path_below, place_below, refused_size}
 use Rattle.fx_folder.specs.Deep.{all_below, walked, last_name, refused_kind, refused_bytes, refused_entry, node_of_kind}
 use Rattle.fx_table.specs.Places.{place_of}
-use Rattle.fx_folder.specs.Walks.{item_path, items_of, bytes_in, held_of, behind, ahead, IsThere, IsEntered, AnswersEntry, AnswersFile, refused_path, IsNoRefusal, size_of}
+use Rattle.fx_folder.specs.Walks.{item_path, items_of, bytes_in, held_of, below_names, ahead, IsThere, IsEntered, AnswersEntry, AnswersFile, refused_path, IsNoRefusal, size_of}
 use Rattle.fx_folder.proofs.Texts.{parts_below, fit_below, lets_place}
 use Rattle.fx_folder.proofs.Below.{folder_fit}
 use Rattle.fx_folder.proofs.Filled.{stands_in}
@@ -135,7 +135,7 @@ sizes left most n = grind (arith, nat_tests)
 -- the refusal of a file is that of its bytes
 size_is : (left : ℕ) (text : List ℕ) (p : Parts) (bytes : List ℕ) → 47 ∷ text ≡ place_of p → refused_size left text bytes ≡ refused_bytes left p bytes
 size_is left text p bytes is =
-    ap (λ b. cond b (Some (TooLarge (place text))) None) (sym (sizes left most_in_file (length bytes)))
+    ap (λ b. cond b (Some (TooLarge (place_below text))) None) (sym (sizes left most_in_file (length bytes)))
     ∙ ap (λ l. cond (nat_lt most_in_file (length bytes) || nat_lt left (length bytes)) (Some (TooLarge l)) None) is
 
 -- ---- what an item is loaded as
@@ -224,7 +224,7 @@ not_folder (Some entry) e = let same : entry.kind ≡ kinds.File = cc in ap is_f
 
 file_entered : (t : Tree) → IsWhole t → (at : Parts) (x : Item) (todo : List Item) → IsThere t at x → x.kind ≡ kinds.File → IsEntered t at (item_path x) todo todo
 file_entered t whole at x todo there kind = record {
-  ahead = ap (λ l. walked (map (behind (item_path x)) l ++ ahead t at todo)) (sym (none_below t whole (at ++ item_path x) (pushed_folder t at x.parent x.name ∙ not_folder (get t (at ++ item_path x)) (there.kind ∙ ap Some kind))));
+  ahead = ap (λ l. walked (map (below_names (item_path x)) l ++ ahead t at todo)) (sym (none_below t whole (at ++ item_path x) (pushed_folder t at x.parent x.name ∙ not_folder (get t (at ++ item_path x)) (there.kind ∙ ap Some kind))));
   there = λ are. are;
 }
 

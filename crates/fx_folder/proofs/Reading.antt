@@ -5,7 +5,7 @@ use Rattle.std.proofs.lemmas.List.{take_all}
 use Rattle.fx_outside.specs.Tree.{Tree, bytes_at}
 use Rattle.fx_outside.specs.Host.{ReadsAt}
 use Rattle.fx_folder.specs.Limits.{most_in_file}
-use Rattle.fx_folder.specs.Reads.{refused_size, place}
+use Rattle.fx_folder.specs.Reads.{refused_size, place_below}
 use Rattle.fx_table.specs.declared.fault.FolderCause.TheVariants.{TooLarge}
 
 -- a call that suits the told tree does not fail for the tree's sake
@@ -40,7 +40,7 @@ front_told told told' path path' old buffer new from n same there start front re
     is
 
 not_larger : (left : ℕ) (name contents : List ℕ) → length contents ≤ min left most_in_file → refused_size left name contents ≡ None
-not_larger left name contents le = let small : nat_lt (min left most_in_file) (length contents) ≡ false = grind (arith, nat_tests) in ap (λ b. cond b (Some (TooLarge (place name))) None) small
+not_larger left name contents le = let small : nat_lt (min left most_in_file) (length contents) ≡ false = grind (arith, nat_tests) in ap (λ b. cond b (Some (TooLarge (place_below name))) None) small
 
 -- at the end all is read
 pub read_end : (contents old buffer : List ℕ) (left n limit : ℕ) (name : List ℕ) → limit ≡ min left most_in_file → length old ≤ limit → old ≡ take (length old) contents → ReadsAt contents (length old) n buffer → n ≡ 0 → record { fits : refused_size left name contents ≡ None; all : old ≡ contents }

@@ -29,7 +29,7 @@ use Rattle.fx_table.specs.Places.{table_name, place_of}
 use Rattle.fx_table.specs.declared.line.TableLine.{TableLine}
 use Rattle.fx_table.proofs.Lining.{minus}
 use Rattle.fx_folder.specs.Deep.{Held, all_below, table_in, last_name, all_bytes, refused_kind, refused_bytes, refused_entry, first_refused, unlisted, table_lines, linked, unless_refused, as_nodes, deep_loads}
-use Rattle.fx_folder.specs.RefusalLaws.{Stands, all_standing, is_one_too_many, is_too_much, is_strange, where_so, cause_of, IsFirstCause, HasNoCause, IsTableCause, EntriesAreListed, FirstCausesAreTold}
+use Rattle.fx_folder.specs.RefusalLaws.{StandsBelow, all_standing, is_one_too_many, is_too_much, is_strange, where_so, cause_of, IsFirstCause, HasNoCause, IsTableCause, EntriesAreListed, FirstCausesAreTold}
 use Rattle.fx_folder.proofs.Counted.{none_behind}
 use Rattle.fx_folder.proofs.TableRefusals.{IsCauseOf, table_is, table_refused, over}
 use Rattle.fx_folder.proofs.Walked.{below_sorted, below_root, find_walked_below}
@@ -278,7 +278,7 @@ module _ (tree : Tree) (P : Parts) where
   abbrev sorted : T (is_sorted parts_cmp hs)
   sorted = below_sorted tree P
 
-  is_found : (q : Parts) (e : Entry) → Stands tree P q e → find parts_cmp q hs ≡ Some e
+  is_found : (q : Parts) (e : Entry) → StandsBelow tree P q e → find parts_cmp q hs ≡ Some e
   is_found [] e stands = absurd stands
   is_found (n ∷ r) e stands = find_walked_below tree P n r ∙ (ap (λ b. cond (not b) (get tree (P ++ n ∷ r)) None) stands.0 ∙ stands.1)
 
@@ -286,7 +286,7 @@ module _ (tree : Tree) (P : Parts) where
   shown true o e is = cc
   shown false o e is = (refl, is)
 
-  does_stand : (q : Parts) (e : Entry) → find parts_cmp q hs ≡ Some e → Stands tree P q e
+  does_stand : (q : Parts) (e : Entry) → find parts_cmp q hs ≡ Some e → StandsBelow tree P q e
   does_stand [] e is = let none : None ≡ Some e = sym (none_behind [] hs (below_root tree P)) ∙ is in cc
   does_stand (n ∷ r) e is = shown (bytes_eq n table_name) (get tree (P ++ n ∷ r)) e (sym (find_walked_below tree P n r) ∙ is)
 

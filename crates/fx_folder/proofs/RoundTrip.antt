@@ -35,7 +35,7 @@ use Rattle.fx_table.specs.declared.line.Mark.{Mark}
 use Rattle.fx_table.specs.declared.line.Mark.TheVariants.{Target, Executable}
 use Rattle.fx_table.specs.Table.{TableLink, IsTable, over, can_mark, lines_of, links_among, flag_at, is_dir, is_file, table_text, read_body}
 use Rattle.fx_table.specs.TableLaws.{but_no_link, unlinked}
-use Rattle.fx_folder.specs.Deep.{Held, all_below, walked, table_in, last_name, refused_kind, refused_entry, first_refused, unlisted, unless_bad, lacking, read_lines, most_in_table, table_lines, linked, all_bytes, with_table, unless_refused, as_nodes, deep_loads, table_entry, is_table_place, HasFolderOf}
+use Rattle.fx_folder.specs.Deep.{Held, all_below, walked, table_in, last_name, refused_kind, refused_entry, first_refused, unlisted, unless_bad, lacking, lines_or_cause, most_in_table, table_lines, linked, all_bytes, with_table, unless_refused, as_nodes, deep_loads, table_entry, is_table_place, HasFolderOf}
 use Rattle.fx_table.specs.Listed.{Mapped, with_links, with_flags, with_lines, names_below, listed}
 use Rattle.fx_folder.specs.LoadLaws.{IsWithinLimits, FoldersAreLoaded}
 use Rattle.fx_table.proofs.Flagging.{find_flags, sorted_flags}
@@ -121,8 +121,8 @@ reads nodes left S (l ∷ ls) table small few fits =
     let fit : nat_lt most_in_table (length text) ≡ false = grind (arith, nat_tests) in
     let room : nat_lt most_nodes (nodes + length links) ≡ false = grind (arith, nat_tests) in
     let bytes : nat_lt left (texts_of links) ≡ false = grind (arith, nat_tests) in
-    ap (λ b. cond b (Err (TooLarge (place_of (table_name ∷ [])))) (read_lines nodes left S text (read_body S text))) fit
-    ∙ ap (read_lines nodes left S text) (body_read S lines table)
+    ap (λ b. cond b (Err (TooLarge (place_of (table_name ∷ [])))) (lines_or_cause nodes left S text (read_body S text))) fit
+    ∙ ap (lines_or_cause nodes left S text) (body_read S lines table)
     ∙ ap (λ b. cond b (Err (TooLarge (place_of (table_name ∷ [])))) (unless_bad lines (lacking text lines))) (few_enough _ _ room bytes)
     ∙ ap (λ b. unless_bad lines (cond b (Some (BadTable 1)) None)) (lacks_none lines)
 

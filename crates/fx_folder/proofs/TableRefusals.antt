@@ -16,7 +16,7 @@ use Rattle.fx_table.specs.declared.line.TableLine.{TableLine}
 use Rattle.fx_table.specs.Table.{TableLink, Setting, setting_of, first_number, body_of, lines_text, read_body, lacks_flags, lines_before, links_among, link_in_line}
 use Rattle.fx_table.specs.TableLaws.{IsFirstBadOf}
 use Rattle.fx_folder.specs.Deep as deep
-use Rattle.fx_folder.specs.Deep.{Held, all_bytes, most_in_table, unless_bad, limited, lacking, read_lines, table_file_lines, table_lines}
+use Rattle.fx_folder.specs.Deep.{Held, all_bytes, most_in_table, unless_bad, limited, lacking, lines_or_cause, table_file_lines, table_lines}
 use Rattle.fx_folder.specs.RefusalLaws.{exceed_limits, HasTooManyLinks, HasBadLine, IsLineCause, IsFileCause}
 use Rattle.fx_table.proofs.Bodies.{body_said}
 use Rattle.fx_table.proofs.TableLines.{SpellsLines, texts_are_lines, bad_line_is_first}
@@ -76,7 +76,7 @@ module _ (all : List Held) where
     before_is : (number : ℕ) (bad : IsFirstBadOf over_text from body number) → limited nodes left (lines_before S text number) (Some (BadTable number)) ≡ cond (exceed_limits all (links_among bad.lines)) (Err too_large) (Err (BadTable number))
     before_is number bad = ap (λ ls. limited nodes left ls (Some (BadTable number))) (lines_before_are over_text from body number bad) ∙ limit_is bad.lines (Some (BadTable number))
 
-    read_is : (r : Result (List TableLine) ℕ) → read_body S text ≡ r → (cause : FolderCause) → read_lines nodes left S text r ≡ Err cause → IsLineCause S all text cause
+    read_is : (r : Result (List TableLine) ℕ) → read_body S text ≡ r → (cause : FolderCause) → lines_or_cause nodes left S text r ≡ Err cause → IsLineCause S all text cause
     read_is (Ok lines) is cause e =
         let spells = texts_are_lines over_text from body lines is in
         by spells (exceed_limits all (links_among lines)) refl (lacks_flags text lines) refl (sym (limit_is lines (lacking text lines)) ∙ e)
@@ -93,7 +93,7 @@ module _ (all : List Held) where
         by bad true many e = inl (cc, record { lines = bad.lines; front = record { rest = bad.rest; parts = bad.parts; table = bad.table }; many = many })
         by bad false few e = inr (number, cc, record { first = stops_in S text number bad; few = few })
 
-    many_read : HasTooManyLinks S all text → (r : Result (List TableLine) ℕ) → read_body S text ≡ r → read_lines nodes left S text r ≡ Err too_large
+    many_read : HasTooManyLinks S all text → (r : Result (List TableLine) ℕ) → read_body S text ≡ r → lines_or_cause nodes left S text r ≡ Err too_large
     many_read has (Ok lines) is =
         let spells = texts_are_lines over_text from body lines is in
         let longer = before_end has.lines lines has.front.rest has.front.table.valid spells.table.valid (sym has.front.parts ∙ spells.spelled) in
@@ -104,21 +104,21 @@ module _ (all : List Held) where
         before_is number bad
         ∙ ap (λ b. cond b (Err too_large) (Err (BadTable number))) (ap (λ ls. exceed_limits all (links_among ls)) longer.links ∙ longer_lines has.lines longer.more has.many)
 
-    bad_read : (number : ℕ) → HasBadLine S all text number → read_lines nodes left S text (read_body S text) ≡ Err (BadTable number)
+    bad_read : (number : ℕ) → HasBadLine S all text number → lines_or_cause nodes left S text (read_body S text) ≡ Err (BadTable number)
     bad_read number has = elim has.first.bad [
       | inl stops ↦
           let bad : IsFirstBadOf over_text from body number = record { lines = has.first.lines; rest = has.first.rest; parts = has.first.parts; table = has.first.table; bad = stops } in
-          ap (read_lines nodes left S text) (stops_read over_text from body number bad) ∙ (before_is number bad ∙ ap (λ b. cond b (Err too_large) (Err (BadTable number))) has.few)
+          ap (lines_or_cause nodes left S text) (stops_read over_text from body number bad) ∙ (before_is number bad ∙ ap (λ b. cond b (Err too_large) (Err (BadTable number))) has.few)
       | inr lacks ↦
           let lines = has.first.lines in
           let whole : body ≡ lines_text lines = has.first.parts ∙ (ap (λ r. lines_text lines ++ r) lacks.whole ∙ append-nil (lines_text lines)) in
-          ap (read_lines nodes left S text) (body_said S text lines whole has.first.table)
+          ap (lines_or_cause nodes left S text) (body_said S text lines whole has.first.table)
           ∙ (limit_is lines (lacking text lines)
           ∙ (ap (λ b. cond b (Err too_large) (unless_bad lines (lacking text lines))) has.few
           ∙ (ap (λ l. unless_bad lines (cond l (Some (BadTable 1)) None)) lacks.lacks ∙ ap (λ n. Err (BadTable n)) (sym lacks.place))))
     ]
 
-    pub lines_refused : (cause : FolderCause) → IsLineCause S all text cause → read_lines nodes left S text (read_body S text) ≡ Err cause
+    pub lines_refused : (cause : FolderCause) → IsLineCause S all text cause → lines_or_cause nodes left S text (read_body S text) ≡ Err cause
     lines_refused cause (inl (same, many)) = many_read many (read_body S text) refl ∙ ap (λ c. Err c) (sym same)
     lines_refused cause (inr (number, same, bad)) = bad_read number bad ∙ ap (λ c. Err c) (sym same)
 
@@ -142,15 +142,15 @@ module _ (all : List Held) where
     file_is kind.Other text cause e = cc
     file_is kind.File text cause e = by (nat_lt most_in_table (length text)) refl e
       where
-        by : (b : Bool) → nat_lt most_in_table (length text) ≡ b → cond b (Err too_large) (read_lines nodes left S text (read_body S text)) ≡ Err cause → IsFileCause S all kind.File text cause
+        by : (b : Bool) → nat_lt most_in_table (length text) ≡ b → cond b (Err too_large) (lines_or_cause nodes left S text (read_body S text)) ≡ Err cause → IsFileCause S all kind.File text cause
         by true is e = inl (not_small (length text) is, cc)
         by false is e = inr (small_enough (length text) is, read_is fits S text (read_body S text) refl cause e)
 
     file_refused : (k : HostKind) (text : List ℕ) (cause : FolderCause) → IsFileCause S all k text cause → table_file_lines nodes left S k text ≡ Err cause
     file_refused kind.Folder text cause same = ap (λ c. Err c) (sym same)
     file_refused kind.Other text cause same = ap (λ c. Err c) (sym same)
-    file_refused kind.File text cause (inl (large, same)) = ap (λ b. cond b (Err too_large) (read_lines nodes left S text (read_body S text))) (is_large (length text) large) ∙ ap (λ c. Err c) (sym same)
-    file_refused kind.File text cause (inr (small, why)) = ap (λ b. cond b (Err too_large) (read_lines nodes left S text (read_body S text))) (is_small (length text) small) ∙ lines_refused fits S text cause why
+    file_refused kind.File text cause (inl (large, same)) = ap (λ b. cond b (Err too_large) (lines_or_cause nodes left S text (read_body S text))) (is_large (length text) large) ∙ ap (λ c. Err c) (sym same)
+    file_refused kind.File text cause (inr (small, why)) = ap (λ b. cond b (Err too_large) (lines_or_cause nodes left S text (read_body S text))) (is_small (length text) small) ∙ lines_refused fits S text cause why
 
     -- the table that stands, if any, is refused for the cause
     abbrev pub IsCauseOf : Option Entry → FolderCause → Type 0

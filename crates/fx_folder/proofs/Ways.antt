@@ -14,10 +14,10 @@ use Rattle.fx_table.specs.declared.fault.LoadFault.{LoadFault}
 use Rattle.fx_table.specs.declared.fault.LoadFault.TheVariants.{Refused, ReadFault, NoMemory}
 use Rattle.fx_folder.specs.Limits.{most_bytes}
 use Rattle.fx_folder.specs.Deep.{Held, all_below, walked, all_bytes, first_refused, refused_entry}
-use Rattle.fx_folder.specs.Walks.{item_path, items_of, in_table, held_of, behind, ahead, IsThere, found_as, root_found, IsOnWay, IsEntered, AnswersEntry, WalkCause, size_of}
+use Rattle.fx_folder.specs.Walks.{item_path, items_of, in_table, held_of, below_names, ahead, IsThere, found_as, root_found, IsOnWay, IsEntered, AnswersEntry, WalkCause, size_of}
 use Rattle.fx_folder.proofs.Branches.{ahead_push, items_ahead, items_there, there_front, there_last, table_is}
 
-behind_none : (xs : List Held) → map (behind []) xs ≡ xs
+behind_none : (xs : List Held) → map (below_names []) xs ≡ xs
 behind_none [] = refl
 behind_none (x ∷ xs) = ap (λ l. x ∷ l) (behind_none xs)
 
@@ -26,7 +26,7 @@ way_start t whole at names lists =
     let lists' : Lists t (at ++ []) names = subst (λ p. Lists t p names) (sym (append-nil at)) lists in
     let all : walked (ahead t at (items_of [] (entries names))) ≡ walked (all_below t at) =
     items_ahead t whole at [] names [] lists'
-    ∙ ap walked (append-nil (map (behind []) (all_below t (at ++ []))) ∙ behind_none (all_below t (at ++ [])) ∙ ap (all_below t) (append-nil at)) in
+    ∙ ap walked (append-nil (map (below_names []) (all_below t (at ++ []))) ∙ behind_none (all_below t (at ++ [])) ∙ ap (all_below t) (append-nil at)) in
     record {
       entries = ap (λ l. root_found ∷ map found_as l) (sym all);
       refusal = ap (first_refused 1 most_bytes) (sym all);
@@ -40,9 +40,9 @@ start_told (Some t) path names found todo whole lists f d =
     subst (λ l. IsOnWay t (parts path) l most_bytes todo) (sym f) (subst (λ l. IsOnWay t (parts path) (root_found ∷ []) most_bytes l) (sym d) (way_start t whole (parts path) names lists.1))
 
 -- the next entry is that of the last item
-next_walked : (t : Tree) (at : Parts) (todo : List Item) (x : Item) → in_table (item_path x) ≡ false → walked (ahead t at (todo ++ x ∷ [])) ≡ held_of t at x ∷ walked (map (behind (item_path x)) (all_below t (at ++ item_path x)) ++ ahead t at todo)
+next_walked : (t : Tree) (at : Parts) (todo : List Item) (x : Item) → in_table (item_path x) ≡ false → walked (ahead t at (todo ++ x ∷ [])) ≡ held_of t at x ∷ walked (map (below_names (item_path x)) (all_below t (at ++ item_path x)) ++ ahead t at todo)
 next_walked t at todo x other =
-    let rest = map (behind (item_path x)) (all_below t (at ++ item_path x)) ++ ahead t at todo in
+    let rest = map (below_names (item_path x)) (all_below t (at ++ item_path x)) ++ ahead t at todo in
     ap walked (ahead_push t at todo x)
     ∙ ap (λ b. cond (not b) (held_of t at x ∷ walked rest) (walked rest)) (table_is (held_of t at x) ∙ other)
 
@@ -71,7 +71,7 @@ way_step t at found left todo todo' x change way none is entered =
 pub way_refused : (t : Tree) (at : Parts) (found : List Change) (left : ℕ) (todo : List Item) (x : Item) (cause : FolderCause) → IsOnWay t at found left (todo ++ x ∷ []) → refused_entry (length found) left (held_of t at x) ≡ Some cause → first_refused 1 most_bytes (walked (all_below t at)) ≡ Some cause
 way_refused t at found left todo x cause way some =
     let there = there_last t at todo x way.there in
-    way.refusal ∙ ap (first_refused (length found) left) (next_walked t at todo x there.walked) ∙ ap (λ o. option_or o (first_refused (length found + 1) (left - length (held_of t at x).1.bytes) (walked (map (behind (item_path x)) (all_below t (at ++ item_path x)) ++ ahead t at todo)))) some
+    way.refusal ∙ ap (first_refused (length found) left) (next_walked t at todo x there.walked) ∙ ap (λ o. option_or o (first_refused (length found + 1) (left - length (held_of t at x).1.bytes) (walked (map (below_names (item_path x)) (all_below t (at ++ item_path x)) ++ ahead t at todo)))) some
 
 pub cause_told : (told : Option Tree) (at : Parts) (found : List Change) (left nodes : ℕ) (todo : List Item) (x : Item) (fault : LoadFault) → nodes ≡ length found → IfSome told (λ t. IsOnWay t at found left (todo ++ x ∷ [])) → IfSome told (λ t. AnswersEntry nodes left (held_of t at x) (Err fault)) → IfSome told (λ t. WalkCause t at fault)
 cause_told None at found left nodes todo x fault n way answer = tt

@@ -18,7 +18,7 @@ use Rattle.fx_table.specs.declared.line.TableLine.{TableLine}
 use Rattle.fx_table.specs.Table.{line_of, lines_of, lines_text, has_flags, version_line, table_text}
 use Rattle.fx_folder.specs.Deep.{table_entry}
 use Rattle.fx_folder.specs.Folder.{IfTold, IsSaved, IsPartlySaved, IsReady}
-use Rattle.fx_table.specs.Remaining.{ComesNext, IsLeftBelow}
+use Rattle.fx_table.specs.Remaining.{TakesPath, IsLeftBelow}
 use Rattle.fx_folder.specs.Written.{with_folder, MadePart, IsOpen, with_entry, WrotePart, HasEntries, WroteFront, file_unless_empty}
 use Rattle.fx_folder.proofs.Filled.{opens}
 use Rattle.fx_table.proofs.Descents.{find_append}
@@ -95,7 +95,7 @@ some_or (Some x) b e = refl
 next_split : (nodes : Nodes) (done left left' : List Mapped) (p : Parts) (node : Node) → entries nodes ≡ done ++ left → left ≡ (p, node) ∷ left' → entries nodes ≡ done ++ (p, node) ∷ left'
 next_split nodes done left left' p node split is = split ∙ ap (λ l. done ++ l) is
 
-pub goes_on : (old host host' : HostView) (path : List ℕ) (nodes : Nodes) (left left' : List Mapped) (p : Parts) → IsWriting old host path nodes left → ComesNext nodes left left' (Some p) → host.faults ≤ host'.faults → WritesIn path host host' → IfTold host.told host'.told (λ t t'. t' ≡ with_entry t (parts path ++ p) (host_entry (get nodes p))) → IsWriting old host' path nodes left'
+pub goes_on : (old host host' : HostView) (path : List ℕ) (nodes : Nodes) (left left' : List Mapped) (p : Parts) → IsWriting old host path nodes left → TakesPath nodes left left' (Some p) → host.faults ≤ host'.faults → WritesIn path host host' → IfTold host.told host'.told (λ t t'. t' ≡ with_entry t (parts path ++ p) (host_entry (get nodes p))) → IsWriting old host' path nodes left'
 goes_on old host host' path nodes left left' p was next later fit wrote =
     let node = next.0 in
     let one : List Mapped = (p, node) ∷ [] in
@@ -113,7 +113,7 @@ goes_on old host host' path nodes left left' p was next later fit wrote =
     }
 
 -- the next entry may be written
-pub is_free : (old host : HostView) (path : List ℕ) (nodes : Nodes) (left left' : List Mapped) (p : Parts) → IsWhole (get nodes) → IfSome old.told (λ t. IsOpen t path) → IsWriting old host path nodes left → ComesNext nodes left left' (Some p) → IfSome host.told (λ t. is_free_at t (path ++ place_of p) ≡ true)
+pub is_free : (old host : HostView) (path : List ℕ) (nodes : Nodes) (left left' : List Mapped) (p : Parts) → IsWhole (get nodes) → IfSome old.told (λ t. IsOpen t path) → IsWriting old host path nodes left → TakesPath nodes left left' (Some p) → IfSome host.told (λ t. is_free_at t (path ++ place_of p) ≡ true)
 is_free old host path nodes left left' p whole ready was next =
     let names = (whole.paths p (subst IsSome (sym next.1) refl)).names in
     told_next old.told host.told (λ t. IsOpen t path) (λ t t'. HasEntries t t' (parts path) was.done) (λ t. is_free_at t (path ++ place_of p) ≡ true) ready was.stands
@@ -135,7 +135,7 @@ stops_before old host path nodes left was =
       begun = inl refl;
     })
 
-pub stops_in : (old host host' : HostView) (path : List ℕ) (nodes : Nodes) (left left' : List Mapped) (p : Parts) → IsWriting old host path nodes left → ComesNext nodes left left' (Some p) → IfTold host.told host'.told (λ t t'. WrotePart t t' (parts path ++ p) (host_entry (get nodes p))) → IfTold old.told host'.told (λ t t'. WroteFront t t' (parts path) nodes)
+pub stops_in : (old host host' : HostView) (path : List ℕ) (nodes : Nodes) (left left' : List Mapped) (p : Parts) → IsWriting old host path nodes left → TakesPath nodes left left' (Some p) → IfTold host.told host'.told (λ t t'. WrotePart t t' (parts path ++ p) (host_entry (get nodes p))) → IfTold old.told host'.told (λ t t'. WroteFront t t' (parts path) nodes)
 stops_in old host host' path nodes left left' p was next wrote =
     told_then old.told host.told host'.told (λ t t'. HasEntries t t' (parts path) was.done) (λ t t'. WrotePart t t' (parts path ++ p) (host_entry (get nodes p))) (λ t t'. WroteFront t t' (parts path) nodes) was.stands wrote
     (λ t u v is has part. record {

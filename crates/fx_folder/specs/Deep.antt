@@ -40,13 +40,13 @@ abbrev pub all_below : Tree → Parts → List Held
 all_below tree folder = filter_map (held_below folder) (entries tree)
 
 -- the table, and what stands below it if it is no file
-abbrev pub is_table : Held → Bool
-is_table ([], e) = false
-is_table (name ∷ names, e) = bytes_eq name table_name
+abbrev pub is_table_entry : Held → Bool
+is_table_entry ([], e) = false
+is_table_entry (name ∷ names, e) = bytes_eq name table_name
 
 -- the entries that are walked: all but the table
 abbrev pub walked : List Held → List Held
-walked hs = filter (λ h. not (is_table h)) hs
+walked hs = filter (λ h. not (is_table_entry h)) hs
 
 -- the table itself
 abbrev pub table_in : List Held → Option Entry
@@ -108,14 +108,14 @@ limited nodes left lines bad = cond (are_too_many nodes left (links_among lines)
 abbrev pub lacking : List ℕ → List TableLine → Option FolderCause
 lacking text lines = cond (lacks_flags text lines) (Some (BadTable 1)) None
 
-abbrev pub read_lines : ℕ → ℕ → Store → List ℕ → Result (List TableLine) ℕ → Result (List TableLine) FolderCause
-read_lines nodes left S text (Ok lines) = limited nodes left lines (lacking text lines)
-read_lines nodes left S text (Err number) = limited nodes left (lines_before S text number) (Some (BadTable number))
+abbrev pub lines_or_cause : ℕ → ℕ → Store → List ℕ → Result (List TableLine) ℕ → Result (List TableLine) FolderCause
+lines_or_cause nodes left S text (Ok lines) = limited nodes left lines (lacking text lines)
+lines_or_cause nodes left S text (Err number) = limited nodes left (lines_before S text number) (Some (BadTable number))
 
 -- a table that is a file and not too large is read line by line
 abbrev pub table_file_lines : ℕ → ℕ → Store → HostKind → List ℕ → Result (List TableLine) FolderCause
 table_file_lines nodes left S kind.File text =
-    cond (nat_lt most_in_table (length text)) (Err (TooLarge (place_of (table_name ∷ [])))) (read_lines nodes left S text (read_body S text))
+    cond (nat_lt most_in_table (length text)) (Err (TooLarge (place_of (table_name ∷ [])))) (lines_or_cause nodes left S text (read_body S text))
 table_file_lines nodes left S kind.Folder text = Err (Strange (place_of (table_name ∷ [])))
 table_file_lines nodes left S kind.Other text = Err (Strange (place_of (table_name ∷ [])))
 

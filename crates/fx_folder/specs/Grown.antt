@@ -28,15 +28,15 @@ abbrev pub HasDir : List Mapped → Parts → Type 0
 HasDir es path = is_dir (find path_cmp path es) ≡ true
 
 -- a change that makes such a node, in a directory of these
-pub record IsFound (es : List Mapped) (c : Change) : Type 0 where
+pub record IsFoundChange (es : List Mapped) (c : Change) : Type 0 where
   pub path : IsPath c.path
   pub node : IsFoundNode c.node
   pub above : (path : Parts) (name : List ℕ) → c.path ≡ path ++ name ∷ [] → HasDir es path
 
 -- all of these are found among them, behind a root
-pub record AreFound (found : List Change) : Type 0 where
+pub record AreFoundChanges (found : List Change) : Type 0 where
   pub root : HasDir (mapped_of found) []
-  pub each : AllByRecursion (IsFound (mapped_of found)) found
+  pub each : AllByRecursion (IsFoundChange (mapped_of found)) found
   pub ascending : IsStrictlySortedBy path_cmp (keys_of (mapped_of found))
 
 -- the paths of items, the last of which is walked first
@@ -47,12 +47,12 @@ paths_ahead (x ∷ items) = paths_ahead items ++ item_path x ∷ []
 -- what is still to be walked stands in directories that were found, and comes behind all that was found
 pub record IsGrown (found : List Change) (todo : List Item) : Type 0 where
   pub root : HasDir (mapped_of found) []
-  pub each : AllByRecursion (IsFound (mapped_of found)) found
+  pub each : AllByRecursion (IsFoundChange (mapped_of found)) found
   pub ascending : IsStrictlySortedBy path_cmp (keys_of (mapped_of found) ++ paths_ahead todo)
   pub stand : AllByRecursion (λ (x : Item). HasDir (mapped_of found) x.parent) todo
 
 -- an item is found as a file, or as a directory whose entries are to be walked next
-pub record Finds (x : Item) (todo todo' : List Item) (c : Change) : Type 0 where
+pub record FindsItem (x : Item) (todo todo' : List Item) (c : Change) : Type 0 where
   pub path : c.path ≡ item_path x
   pub valid : IsPath c.path
   pub node : IsFoundNode c.node

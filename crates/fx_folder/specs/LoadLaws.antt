@@ -19,13 +19,13 @@ abbrev pub LoadsAreWhole : Type 0
 LoadsAreWhole = (tree : Tree) → host.IsWhole tree → (folder : Parts) (nodes : Nodes) → deep_loads tree folder ≡ Ok nodes → AreOfBytes (get nodes) → IsWhole (get nodes)
 
 -- the bytes of a node that are counted: those of a file and those of a link's text
-abbrev pub size_of : Node → ℕ
-size_of (File bytes exec) = length bytes
-size_of (Dir names) = 0
-size_of (Link text) = length text
+abbrev pub counted_bytes : Node → ℕ
+counted_bytes (File bytes exec) = length bytes
+counted_bytes (Dir names) = 0
+counted_bytes (Link text) = length text
 
 abbrev pub sizes_of : List Mapped → ℕ
-sizes_of es = sum_by (λ (e : Mapped). size_of e.1) es
+sizes_of es = sum_by (λ (e : Mapped). counted_bytes e.1) es
 
 -- a filestore that can be loaded: so many nodes with the root, so many bytes in its files and link texts, and in its table
 pub record IsWithinLimits (nodes : Nodes) : Type 0 where

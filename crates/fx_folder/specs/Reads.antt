@@ -12,12 +12,12 @@ abbrev pub path_below : List ℕ → List ℕ → List ℕ
 path_below folder name = folder ++ 47 ∷ name
 
 -- where an entry stands below the folder
-abbrev pub place : List ℕ → List ℕ
-place name = 47 ∷ name
+abbrev pub place_below : List ℕ → List ℕ
+place_below name = 47 ∷ name
 
 -- why a file is refused where so many bytes may still be loaded
 abbrev pub refused_size : ℕ → List ℕ → List ℕ → Option FolderCause
-refused_size left name bytes = cond (nat_lt (min left most_in_file) (length bytes)) (Some (TooLarge (place name))) None
+refused_size left name bytes = cond (nat_lt (min left most_in_file) (length bytes)) (Some (TooLarge (place_below name))) None
 
 -- the bytes, or the refusal that is due where so many bytes are left
 abbrev pub ReadsFile : ℕ → List ℕ → List ℕ → Result Bytes LoadFault → Type 0

@@ -25,9 +25,9 @@ use Rattle.fx_table.specs.TableLaws.{IsFirstBadLine, BeginsWith}
 use Rattle.fx_folder.specs.Deep.{Held, all_below, walked, last_name, all_bytes, unlisted, most_in_table, deep_loads}
 
 -- an entry stands at these names below the folder, and neither is the table nor stands in it
-abbrev pub Stands : Tree → Parts → Parts → Entry → Type 0
-Stands tree folder [] e = ⊥
-Stands tree folder (name ∷ names) e = (bytes_eq name table_name ≡ false) × (get tree (folder ++ name ∷ names) ≡ Some e)
+abbrev pub StandsBelow : Tree → Parts → Parts → Entry → Type 0
+StandsBelow tree folder [] e = ⊥
+StandsBelow tree folder (name ∷ names) e = (bytes_eq name table_name ≡ false) × (get tree (folder ++ name ∷ names) ≡ Some e)
 
 -- all of these, in the order of their paths
 abbrev pub all_standing : Tree → Parts → List Held
@@ -36,7 +36,7 @@ all_standing tree folder = walked (all_below tree folder)
 -- they are those that stand, each once
 pub record AreListed (tree : Tree) (folder : Parts) : Type 0 where
   pub ascending : IsStrictlySortedBy parts_cmp (keys_of (all_standing tree folder))
-  pub listed : (names : Parts) (e : Entry) → Stands tree folder names e ↔ (find parts_cmp names (all_standing tree folder) ≡ Some e)
+  pub listed : (names : Parts) (e : Entry) → StandsBelow tree folder names e ↔ (find parts_cmp names (all_standing tree folder) ≡ Some e)
 
 abbrev pub EntriesAreListed : Type 0
 EntriesAreListed = (tree : Tree) (folder : Parts) → AreListed tree folder
@@ -77,13 +77,13 @@ cause_at tree folder names e = cause_of (standing_before tree folder names) name
 pub record IsFirstCause (tree : Tree) (folder : Parts) (cause : FolderCause) : Type 0 where
   pub names : Parts
   pub entry : Entry
-  pub stands : Stands tree folder names entry
+  pub stands : StandsBelow tree folder names entry
   pub has : cause_at tree folder names entry ≡ Some cause
-  pub first : (earlier : Parts) (e : Entry) → Stands tree folder earlier e → parts_cmp earlier names ≡ Less → cause_at tree folder earlier e ≡ None
+  pub first : (earlier : Parts) (e : Entry) → StandsBelow tree folder earlier e → parts_cmp earlier names ≡ Less → cause_at tree folder earlier e ≡ None
 
 -- no entry has a cause
 abbrev pub HasNoCause : Tree → Parts → Type 0
-HasNoCause tree folder = (names : Parts) (e : Entry) → Stands tree folder names e → cause_at tree folder names e ≡ None
+HasNoCause tree folder = (names : Parts) (e : Entry) → StandsBelow tree folder names e → cause_at tree folder names e ≡ None
 
 -- with the root, all entries and these links there are too many nodes, or too many bytes in the files and link texts
 abbrev pub exceed_limits : List Held → List TableLink → Bool

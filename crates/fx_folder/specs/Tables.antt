@@ -26,10 +26,10 @@ ReadsWhole limit contents None = limit < length contents
 ReadsWhole limit contents (Some bytes) = (length contents ≤ limit) × (bytes ≡ contents)
 
 -- the text of a table of this kind, or why it is refused
-abbrev pub text_of : HostKind → List ℕ → Result (List ℕ) FolderCause
-text_of kind.File contents = cond (nat_lt most_in_table (length contents)) (Err (TooLarge (place_of (table_name ∷ [])))) (Ok contents)
-text_of kind.Folder contents = Err (Strange (place_of (table_name ∷ [])))
-text_of kind.Other contents = Err (Strange (place_of (table_name ∷ [])))
+abbrev pub table_text_or_cause : HostKind → List ℕ → Result (List ℕ) FolderCause
+table_text_or_cause kind.File contents = cond (nat_lt most_in_table (length contents)) (Err (TooLarge (place_of (table_name ∷ [])))) (Ok contents)
+table_text_or_cause kind.Folder contents = Err (Strange (place_of (table_name ∷ [])))
+table_text_or_cause kind.Other contents = Err (Strange (place_of (table_name ∷ [])))
 
 -- the answer is this, unless the host failed or memory was refused
 abbrev pub AnswersText : Result (List ℕ) FolderCause → Result (List ℕ) LoadFault → Type 0

@@ -49,12 +49,12 @@ abbrev pub held_of : Tree → Parts → Item → Held
 held_of tree at item = (item_path item, record { kind = item.kind; bytes = bytes_in tree (at ++ item_path item) })
 
 -- an entry below a folder to which these names lead
-abbrev pub behind : Parts → Held → Held
-behind names h = (names ++ h.0, h.1)
+abbrev pub below_names : Parts → Held → Held
+below_names names h = (names ++ h.0, h.1)
 
 -- an item, and all that stands below it
 abbrev pub branch : Tree → Parts → Item → List Held
-branch tree at item = held_of tree at item ∷ map (behind (item_path item)) (all_below tree (at ++ item_path item))
+branch tree at item = held_of tree at item ∷ map (below_names (item_path item)) (all_below tree (at ++ item_path item))
 
 -- what is left to walk: the branches of the items, the last of them first
 abbrev pub ahead : Tree → Parts → List Item → List Held
@@ -103,7 +103,7 @@ AnswersEntry nodes left h (Err NoMemory) = ⊤
 
 -- the entries below a folder are to be walked next
 pub record IsEntered (tree : Tree) (at : Parts) (names : Parts) (todo todo' : List Item) : Type 0 where
-  pub ahead : walked (ahead tree at todo') ≡ walked (map (behind names) (all_below tree (at ++ names)) ++ ahead tree at todo)
+  pub ahead : walked (ahead tree at todo') ≡ walked (map (below_names names) (all_below tree (at ++ names)) ++ ahead tree at todo)
   pub there : AreThere tree at todo → AreThere tree at todo'
 
 -- the entries of the folder at a path become items

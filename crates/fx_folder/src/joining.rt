@@ -5,12 +5,12 @@ ghost use Rattle.fx_outside.specs.Host.{ReadsOnly, AsksAt, AsksIn, FaultIn};
 ghost use Rattle.fx_outside.specs.Path.{parts};
 ghost use Rattle.fx_outside.specs.Tree.{is_folder_at, is_file_at, bytes_at};
 ghost use Rattle.fx_table.specs.declared.fault.LoadFault.TheVariants.{ReadFault};
-ghost use Rattle.fx_folder.specs.Grown.{AreFound};
+ghost use Rattle.fx_folder.specs.Grown.{AreFoundChanges};
 ghost use Rattle.fx_table.specs.Places.{table_name};
 ghost use Rattle.fx_table.specs.Lines.{standing_by, LinesCause};
 ghost use Rattle.fx_folder.specs.Reads.{path_below};
 ghost use Rattle.fx_table.specs.Shaped.{AreShaped};
-ghost use Rattle.fx_folder.specs.Tables.{ReadsWhole, text_of, AnswersText, AnswersFound, HasTable, IsJoined, room_behind, items_in};
+ghost use Rattle.fx_folder.specs.Tables.{ReadsWhole, table_text_or_cause, AnswersText, AnswersFound, HasTable, IsJoined, room_behind, items_in};
 ghost use Rattle.fx_folder.specs.Walks.{AnswersWalk};
 
 use crate::loading::{MAX_NODES, TABLE, read_whole};
@@ -50,7 +50,7 @@ pub(crate) fn with_table<H: Host>(
     requires table { IfSome (H.view host.old).told (λ tree. HasTable tree (parts folder.now) kind) }
     requires walked { IfSome (H.view host.old).told (λ tree.
         AnswersWalk tree (parts folder.now) (Ok walked)) }
-    requires found { AreFound walked.found.items }
+    requires found { AreFoundChanges walked.found.items }
     ensures shaped { IfOk result (λ all. AreShaped all.items) }
     ensures answer { IfSome (H.view host.old).told (λ tree.
         AnswersFound tree (parts folder.now) (items_in result)) }
@@ -65,7 +65,7 @@ pub(crate) fn with_table<H: Host>(
 
 /// What was walked, with the links and flags of a table's text.
 fn joined(alloc: Global, walked: Walked, text: &[u8]) -> Result<Vec<Change>, LoadFault>
-    requires { AreFound walked.found.items }
+    requires { AreFoundChanges walked.found.items }
     ensures shaped { IfOk result (λ all. AreShaped all.items) }
     ensures joined { IfOk result
         (λ all. IsJoined walked.found.items walked.left text.now all.items) }
@@ -94,7 +94,7 @@ fn read_text<H: Host>(
     requires folder { IfSome (H.view host.old).told (λ tree. is_folder_at tree folder.now ≡ true) }
     requires table { IfSome (H.view host.old).told (λ tree. HasTable tree (parts folder.now) kind) }
     ensures answer { IfSome (H.view host.old).told (λ tree.
-        AnswersText (text_of kind (bytes_at tree (path_below folder.now table_name)))
+        AnswersText (table_text_or_cause kind (bytes_at tree (path_below folder.now table_name)))
         (items_in result)) }
     ensures fault { result ≡ Err ReadFault
         → FaultIn folder.now (H.view host.old) (H.view host.new) }
@@ -118,7 +118,7 @@ fn read_table_file<H: Host>(
     requires file { IfSome (H.view host.old).told (λ tree.
         is_file_at tree (path_below folder.now table_name) ≡ true) }
     ensures answer { IfSome (H.view host.old).told (λ tree. AnswersText
-        (text_of HostKind.File (bytes_at tree (path_below folder.now table_name)))
+        (table_text_or_cause HostKind.File (bytes_at tree (path_below folder.now table_name)))
         (items_in result)) }
     ensures fault { result ≡ Err ReadFault
         → FaultIn folder.now (H.view host.old) (H.view host.new) }

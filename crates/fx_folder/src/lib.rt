@@ -6,7 +6,7 @@ mod fault;
 mod joining;
 pub mod laws;
 mod loading;
-mod place;
+mod parent;
 mod readying;
 mod saving;
 mod walking;

@@ -7,7 +7,7 @@ ghost use Rattle.fx_outside.specs.declared.kind.HostFault.TheVariants.{Failed};
 ghost use Rattle.fx_table.specs.declared.fault.LoadFault.TheVariants.{ReadFault, NoMemory};
 ghost use Rattle.fx_folder.specs.Tables.{ReadsWhole, AnswersFound, items_in};
 ghost use Rattle.fx_folder.specs.Loads.{loads, Loads, LoadCause, AnswersAs};
-ghost use Rattle.fx_folder.specs.Reads.{path_below, place, ReadsFile};
+ghost use Rattle.fx_folder.specs.Reads.{path_below, place_below, ReadsFile};
 ghost use Rattle.fx_table.specs.Shaped.{AreShaped};
 
 use crate::building::filestore_of;
@@ -182,7 +182,7 @@ pub(crate) fn path_below(
 
 /// The path of an entry below its folder, as refusals name it.
 pub(crate) fn below_folder(alloc: Global, name: &HostText) -> Result<HostText, AllocError>
-    ensures { IfOk result (λ path. path ≡ place name.now) }
+    ensures { IfOk result (λ path. path ≡ place_below name.now) }
 {
     let mut path = String::from_str(alloc, "/")?;
     path.push_str(name.as_str())?;

@@ -7,12 +7,12 @@ ghost use Rattle.fx_outside.specs.Host.{ReadsOnly, AsksAt, AsksIn, FaultIn};
 ghost use Rattle.fx_store.specs.Names.{IsPath};
 ghost use Rattle.fx_table.specs.declared.fault.LoadFault.TheVariants.{ReadFault};
 ghost use Rattle.fx_table.specs.Places.{place_of};
-ghost use Rattle.fx_folder.specs.Grown.{IsFoundNode, AreFound, IsGrown, Finds};
+ghost use Rattle.fx_folder.specs.Grown.{IsFoundNode, AreFoundChanges, IsGrown, FindsItem};
 ghost use Rattle.fx_folder.specs.Walks.{item_path, items_of, in_table, held_of, AnswersEntry, IsThere, IsEntered, IsOnWay, AnswersWalk, WalkCause, IsNoRefusal, AddsItems, PassesPath, AnswersFile, size_of};
 ghost use Rattle.fx_folder.specs.Reads.{path_below};
 
 use crate::loading::{MAX_BYTES, MAX_NODES, TABLE, below_folder, path_below, read_file};
-use crate::place::Place;
+use crate::parent::Parent;
 use fx_base::NoMemory;
 use fx_outside::{Host, HostKind, HostText, Listing};
 use fx_store::limits::MAX_FILE_BYTES;
@@ -23,7 +23,7 @@ use std::alloc::Global;
 /// An entry that is still to be walked: its folder, its name and its kind.
 #[derive(Debug, Drop)]
 pub struct Item {
-    pub parent: Place,
+    pub parent: Parent,
     pub name: HostText,
     pub kind: HostKind,
 }
@@ -49,13 +49,13 @@ pub(crate) fn walk<H: Host>(
         (is_folder_at tree folder.now ≡ true) × Lists tree (parts folder.now) names.now) }
     ensures answer { IfSome (H.view host.old).told
         (λ tree. AnswersWalk tree (parts folder.now) result) }
-    ensures found { IfOk result (λ walked. AreFound walked.found.items) }
+    ensures found { IfOk result (λ walked. AreFoundChanges walked.found.items) }
     ensures fault { result ≡ Err ReadFault
         → FaultIn folder.now (H.view host.old) (H.view host.new) }
     ensures same { ReadsOnly (H.view host.old) (H.view host.new) }
     ensures fit { AsksIn folder.now (H.view host.old) (H.view host.new) }
 {
-    let top = Place::root(alloc)?;
+    let top = Parent::root(alloc)?;
     let mut todo = Vec::new(alloc);
     add_items(alloc, &top, names, &mut todo)?;
     let mut found = Vec::new(alloc);
@@ -82,7 +82,7 @@ fn walk_items<H: Host>(
     requires grown { IsGrown found.old.items todo.old.items }
     ensures way { IfOk result (λ left. IfSome (H.view host.old).told (λ tree.
         IsOnWay tree (parts folder.now) found.new.items left [])) }
-    ensures grown { OnOk result (AreFound found.new.items) }
+    ensures grown { OnOk result (AreFoundChanges found.new.items) }
     ensures cause { IfErr result (λ fault. IfSome (H.view host.old).told (λ tree.
         WalkCause tree (parts folder.now) fault)) }
     ensures fault { result ≡ Err ReadFault
@@ -151,7 +151,7 @@ fn enter<H: Host>(
         AnswersEntry nodes left (held_of tree (parts folder.now) item.now) result) }
     ensures entered { OnOk result (IfSome (H.view host.old).told (λ tree.
         IsEntered tree (parts folder.now) (item_path item.now) todo.old.items todo.new.items)) }
-    ensures found { IfOk result (Finds item.now todo.old.items todo.new.items) }
+    ensures found { IfOk result (FindsItem item.now todo.old.items todo.new.items) }
     ensures size { IfOk result (λ change. size_of change ≤ left) }
     ensures few { OnOk result (nodes < MAX_NODES) }
     ensures fault { result ≡ Err ReadFault
@@ -226,7 +226,7 @@ fn enter_folder<H: Host>(
 {
     let place = path_below(alloc, folder, text)?;
     let names = host.list(alloc, &place)?;
-    let parent = Place::new(alloc, &path, text)?;
+    let parent = Parent::new(alloc, &path, text)?;
     add_items(alloc, &parent, &names, todo)?;
     Ok(Change {
         path,
@@ -237,7 +237,7 @@ fn enter_folder<H: Host>(
 /// The entries of a folder become items, all but the table, with the first name at the end.
 fn add_items(
     alloc: Global,
-    parent: &Place,
+    parent: &Parent,
     names: &Listing,
     todo: &mut Vec<Item>,
 ) -> Result<(), NoMemory>
@@ -256,7 +256,7 @@ fn add_items(
 }
 
 /// Whether an entry is the table of the folder.
-fn is_table(parent: &Place, name: &HostText) -> bool
+fn is_table(parent: &Parent, name: &HostText) -> bool
     ensures { result ≡ in_table (parent.now ++ name.now ∷ []) }
 {
     if parent.len() > 0 {
@@ -267,7 +267,7 @@ fn is_table(parent: &Place, name: &HostText) -> bool
 
 fn new_item(
     alloc: Global,
-    parent: &Place,
+    parent: &Parent,
     name: &HostText,
     kind: HostKind,
 ) -> Result<Item, NoMemory>

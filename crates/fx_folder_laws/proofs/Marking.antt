@@ -22,7 +22,7 @@ use Rattle.fx_table.specs.Listed.{Mapped, with_links, with_flags, with_lines}
 use Rattle.fx_table.specs.declared.line.Mark.{Mark}
 use Rattle.fx_table.specs.declared.line.Mark.TheVariants.{Target, Executable}
 use Rattle.fx_table.specs.declared.line.TableLine.{TableLine}
-use Rattle.fx_table.specs.Table.{is_flag, flag_at, is_dir, is_file, over, can_mark, has_place, links_among, link_in_line, IsTable}
+use Rattle.fx_table.specs.Table.{is_flag_mark, flag_at, is_dir, is_file, over, can_mark, has_place, links_among, link_in_line, IsTable}
 use Rattle.fx_table.proofs.Flagging.{find_flags}
 use Rattle.fx_table.proofs.Linking.{find_linked}
 use Rattle.fx_table.proofs.Shapes.{found, relisted}
@@ -109,14 +109,14 @@ linked_by (Some Executable) o = o
 
 flag_by : Option Mark → Bool
 flag_by None = false
-flag_by (Some mark) = is_flag mark
+flag_by (Some mark) = is_flag_mark mark
 
 flag_is : (lines : List TableLine) (q : Paths) → flag_at lines q ≡ flag_by (mark_at lines q)
 unfolding flag_by mark_at
 flag_is [] q = refl
 flag_is (l ∷ lines) q = by (eq_by_cmp path_cmp q l.path) (flag_is lines q)
   where
-    by : (b : Bool) → flag_at lines q ≡ flag_by (mark_at lines q) → cond b (is_flag l.mark) (flag_at lines q) ≡ flag_by (cond b (Some l.mark) (mark_at lines q))
+    by : (b : Bool) → flag_at lines q ≡ flag_by (mark_at lines q) → cond b (is_flag_mark l.mark) (flag_at lines q) ≡ flag_by (cond b (Some l.mark) (mark_at lines q))
     by true rest = refl
     by false rest = rest
 

@@ -23,20 +23,20 @@ use Rattle.fx_table.specs.Listed.{Mapped, with_lines, listed}
 use Rattle.fx_table.specs.Places.{table_name}
 use Rattle.fx_table.specs.declared.line.TableLine.{TableLine}
 use Rattle.fx_table.specs.Table.{IsTable, table_text, lines_of, setting_of, first_number, body_of, read_body, lines_before, lacks_flags, links_among}
-use Rattle.fx_table.specs.TableLaws.{Spells}
+use Rattle.fx_table.specs.TableLaws.{SpellsTable}
 use Rattle.fx_table.proofs.Shapes.{found, relisted, find_listed}
 use Rattle.fx_table.proofs.TableLines.{texts_are_lines}
 use Rattle.fx_table.proofs.Versions.{spells}
 use Rattle.fx_folder.specs.Places.{host_entry}
 use Rattle.fx_folder.specs.Loads.{most_bytes}
-use Rattle.fx_folder.specs.Deep.{Held, all_below, walked, table_in, node_of_kind, unlisted, unless_bad, are_too_many, lacking, read_lines, table_file_lines, table_lines, deep_loads, table_entry, folder_entry}
+use Rattle.fx_folder.specs.Deep.{Held, all_below, walked, table_in, node_of_kind, unlisted, unless_bad, are_too_many, lacking, lines_or_cause, table_file_lines, table_lines, deep_loads, table_entry, folder_entry}
 use Rattle.fx_folder.specs.Folder.{entry_or}
 use Rattle.fx_folder.proofs.Filled.{stands_in, none_below}
 use Rattle.fx_folder.proofs.Loaded.{all_accepted, node_of, find_unlisted, IsLoaded, was_loaded, folder_entry_is, no_lines, some_bad, unless_large}
 use Rattle.fx_folder.proofs.Walked.{find_walked_below}
 use Rattle.fx_folder.proofs.Branches.{find_below}
 use Rattle.fx_folder.proofs.RoundTrip.{no_place}
-use Rattle.fx_folder_laws.specs.Stays.{StandsFor, LoadedFoldersStay, IsKept, SavedFoldersAreSame}
+use Rattle.fx_folder_laws.specs.Stays.{StandsFor, LoadedFoldersStay, IsKeptEntry, SavedFoldersAreSame}
 use Rattle.fx_folder_laws.proofs.Marking.{IsNoLink, relisted_entry, entry_at as entry_with, lines_stay}
 
 abbrev Paths : Type 0
@@ -62,16 +62,16 @@ not_bad false c None lines made e = (refl, cc)
 not_bad false c (Some d) lines made e = cc
 
 -- a text whose lines are read spells them
-read_spells : (nodes left : ℕ) (S : Store) (text : List ℕ) (r : Result (List TableLine) ℕ) (lines : List TableLine) → read_body S text ≡ r → read_lines nodes left S text r ≡ Ok lines → Spells S text lines
+read_spells : (nodes left : ℕ) (S : Store) (text : List ℕ) (r : Result (List TableLine) ℕ) (lines : List TableLine) → read_body S text ≡ r → lines_or_cause nodes left S text r ≡ Ok lines → SpellsTable S text lines
 read_spells nodes left S text (Ok read) lines is e =
     let good = not_bad (are_too_many nodes left (links_among read)) _ (lacking text read) read lines e in
     let all = texts_are_lines (setting_of S text) (first_number text) (body_of text) read is in
-    subst (Spells S text) good.1 (spells S text read all.table all.spelled (not_lacking (lacks_flags text read) good.0))
+    subst (SpellsTable S text) good.1 (spells S text read all.table all.spelled (not_lacking (lacks_flags text read) good.0))
 read_spells nodes left S text (Err number) lines is e = absurd (some_bad (are_too_many nodes left (links_among (lines_before S text number))) _ (BadTable number) (lines_before S text number) lines e)
 
 of_file : (nodes left : ℕ) (S : Store) (k : HostKind) (text : List ℕ) (lines : List TableLine) → table_file_lines nodes left S k text ≡ Ok lines → IsTableOf S lines (Some (record { kind = k; bytes = text }))
 of_file nodes left S kind.File text lines e =
-    let read = read_spells nodes left S text (read_body S text) lines refl (unless_large _ _ (read_lines nodes left S text (read_body S text)) lines e) in
+    let read = read_spells nodes left S text (read_body S text) lines refl (unless_large _ _ (lines_or_cause nodes left S text (read_body S text)) lines e) in
     record { table = read.table; is = inr (ap (λ t. Some (file t)) read.spelled) }
 of_file nodes left S kind.Folder text lines e = cc
 of_file nodes left S kind.Other text lines e = cc
@@ -214,7 +214,7 @@ folder_there tree whole path is =
     let here = fit_some (is_fit path) (get tree (parts path)) is in
     here.1 ∙ ap Some (of_folder here.0.kind here.0.bytes here.2 (bare tree whole (parts path) here.0 here.1))
 
-kept : (nodes : Nodes) (names : Parts) (found saved : Option Entry) → saved ≡ folder_entry nodes names → StandsFor nodes names found → IsKept names found saved
+kept : (nodes : Nodes) (names : Parts) (found saved : Option Entry) → saved ≡ folder_entry nodes names → StandsFor nodes names found → IsKeptEntry names found saved
 kept nodes names found saved is (inl same) = inl (is ∙ sym same)
 kept nodes names found saved is (inr empty) =
     let none : folder_entry nodes (table_name ∷ []) ≡ None = ap table_entry empty.1 in

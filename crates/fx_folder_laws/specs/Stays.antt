@@ -28,11 +28,11 @@ LoadedFoldersStay =
     → (names : Parts) → StandsFor nodes names (get tree (folder ++ names))
 
 -- what is saved is what was found; or a table without bytes was found, and none is saved
-abbrev pub IsKept : Parts → Option Entry → Option Entry → Type 0
-IsKept names found saved = (saved ≡ found) ⊎ (IsEmptyTable names found × (saved ≡ None))
+abbrev pub IsKeptEntry : Parts → Option Entry → Option Entry → Type 0
+IsKeptEntry names found saved = (saved ≡ found) ⊎ (IsEmptyTable names found × (saved ≡ None))
 
 -- a filestore that was loaded of the folder at a path, and is saved at these parts of another tree or of the same
 abbrev pub SavedFoldersAreSame : Type 0
 SavedFoldersAreSame =
     (tree old new : Tree) → host.IsWhole tree → (path : List ℕ) (at : Parts) (nodes : Nodes) → Loads tree path nodes → IsSaved old new at nodes
-    → (names : Parts) → IsKept names (get tree (parts path ++ names)) (get new (at ++ names))
+    → (names : Parts) → IsKeptEntry names (get tree (parts path ++ names)) (get new (at ++ names))

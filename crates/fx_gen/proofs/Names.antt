@@ -9,7 +9,7 @@ use Rattle.std.specs.Str.{is_utf8, chars}
 use Rattle.std.proofs.lemmas.Bool.{and_parts}
 use Rattle.fx_store.specs.Names.{is_name, path_cmp}
 use Rattle.fx_store.specs.Changes.{changed_paths}
-use Rattle.fx_gen.specs.Notes.{projects, placed, made}
+use Rattle.fx_gen.specs.Notes.{projects, all_placed, made}
 use lib.Utf8.{encode}
 use Rattle.fx_base.proofs.Orders.{is_less}
 
@@ -26,7 +26,7 @@ unfolding IsStrictlySortedBy
 sorted R [] e = tt
 sorted R (k ∷ ks) e = let p = and_parts (list_all (λ l. is_lt (R k l)) ks) (in_order R ks) e in (above_each R k ks p.0, sorted R ks p.1)
 
-pub paths_in_order : (number : ℕ) → in_order path_cmp (changed_paths (map made (placed number))) ≡ true
+pub paths_in_order : (number : ℕ) → in_order path_cmp (changed_paths (map made (all_placed number))) ≡ true
 paths_in_order number = refl
 
 pub are_names : list_all is_name projects ≡ true

@@ -18,15 +18,15 @@ use Rattle.fx_store.specs.Filestore.{root_only}
 use Rattle.fx_store.specs.Whole.{IsNode, IsWhole, over}
 use Rattle.fx_store.proofs.PathLists.{all_names}
 use Rattle.fx_gen.specs.Draws.{draw}
-use Rattle.fx_gen.specs.Notes.{Placed, two_digits, project, note_name, projects, note_names, linked, note, config, placed_note, placed_project, placed_top, placed, made, note_changes_to, changes_to, project_changes}
+use Rattle.fx_gen.specs.Notes.{Placed, two_digits, project, note_name, projects, note_names, linked, note, config, placed_note, placed_project, placed_top, all_placed, made, note_changes_to, changes_to, project_changes}
 use Rattle.fx_gen.proofs.Names as order
 use Rattle.fx_gen.proofs.Names.{sorted, paths_in_order}
 use Rattle.std.proofs.lemmas.List.{map-append}
 use Rattle.fx_gen.proofs.Ranges.{map_more, flat_more}
 use Rattle.fx_gen.proofs.Wholes.{IsTested, is_listed, lists_all, over_made}
 
-pub in_order : (number : ℕ) → IsChanges (map made (placed number))
-in_order number = sorted path_cmp (changed_paths (map made (placed number))) (paths_in_order number)
+pub in_order : (number : ℕ) → IsChanges (map made (all_placed number))
+in_order number = sorted path_cmp (changed_paths (map made (all_placed number))) (paths_in_order number)
 
 -- ---- numbers below a bound
 
@@ -78,14 +78,14 @@ all_paths (e ∷ es) pass =
     let q = and_parts (list_all is_name e.0) (nat_le (length e.0) 64) p.0 in
     All-cons (λ (e : Placed). IsPath e.0) e es (record { names = all_names e.0 q.0; short = leb-true (length e.0) 64 q.1 }) (all_paths es p.1)
 
-paths : (number : ℕ) → All (λ (e : Placed). IsPath e.0) (placed number)
+paths : (number : ℕ) → All (λ (e : Placed). IsPath e.0) (all_placed number)
 unfolding is_utf8 chars encode is_name is_path
-paths number = all_paths (placed number) refl
+paths number = all_paths (all_placed number) refl
 
-listed_there : (number : ℕ) → list_all (is_listed (placed number)) (placed number) ≡ true
+listed_there : (number : ℕ) → list_all (is_listed (all_placed number)) (all_placed number) ≡ true
 listed_there number = refl
 
-lists_there : (number : ℕ) → list_all (lists_all (placed number)) (placed number) ≡ true
+lists_there : (number : ℕ) → list_all (lists_all (all_placed number)) (all_placed number) ≡ true
 lists_there number = refl
 
 -- ---- nodes
@@ -172,7 +172,7 @@ config_entry = (codes "config" ∷ [], File config false)
 abbrev current_entry : ℕ → Placed
 current_entry number = (codes "current" ∷ [], Link (linked number))
 
-all_fine : (number : ℕ) → All IsFine (placed number)
+all_fine : (number : ℕ) → All IsFine (all_placed number)
 all_fine number =
     All-append IsFine (placed_top number) (flat_map (placed_project number) (range_with_len 0 16))
     (All-cons IsFine root_entry (config_entry ∷ current_entry number ∷ []) (top_set, λ e. absurd (omega (arith, e))) (All-cons IsFine config_entry (current_entry number ∷ []) config_content (All-cons IsFine (current_entry number) [] (linked_text number) (All-nil IsFine))))
@@ -180,7 +180,7 @@ all_fine number =
 
 -- ---- the filestore
 
-are_tested : (number : ℕ) → IsTested (placed number)
+are_tested : (number : ℕ) → IsTested (all_placed number)
 are_tested number = record {
   root = (codes "config" ∷ codes "current" ∷ projects, refl);
   listed = listed_there number;
@@ -189,8 +189,8 @@ are_tested number = record {
   nodes = all_fine number;
 }
 
-pub placed_whole : (number : ℕ) → IsWhole (over (get root_only) (map made (placed number)))
-placed_whole number = over_made (placed number) (in_order number) (are_tested number)
+pub placed_whole : (number : ℕ) → IsWhole (over (get root_only) (map made (all_placed number)))
+placed_whole number = over_made (all_placed number) (in_order number) (are_tested number)
 
 -- ---- single names
 

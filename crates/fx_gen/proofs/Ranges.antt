@@ -10,7 +10,7 @@ use mir.Val.{bool_byte}
 use Rattle.std.proofs.lemmas.List.FromFn.{map-range_with_len_more}
 use Rattle.fx_base.proofs.Booleans.{byte_is}
 use Rattle.fx_gen.specs.Notes.{project}
-use Rattle.fx_gen.specs.Scripts.{front, count_line, log_line, txn_line, first_lines, script_of, scripts_to, kind_of, logging_of, counting_of}
+use Rattle.fx_gen.specs.Scripts.{front, count_line, log_line, txn_line, first_lines, generated_script, scripts_to, kind_of, logging_of, counting_of}
 
 pub count_short : (p : ℕ) → length (count_line p) ≤ 128
 unfolding count_line
@@ -78,9 +78,9 @@ pub scripts_none : (number : ℕ) → scripts_to number 0 ≡ []
 unfolding scripts_to
 scripts_none number = refl
 
-pub scripts_more : (number n : ℕ) → scripts_to number (n + 1) ≡ scripts_to number n ++ script_of number n ∷ []
+pub scripts_more : (number n : ℕ) → scripts_to number (n + 1) ≡ scripts_to number n ++ generated_script number n ∷ []
 unfolding scripts_to
-scripts_more number n = map_more (script_of number) n
+scripts_more number n = map_more (generated_script number) n
 
 pub logging_none : (number : ℕ) → logging_of number 0 ≡ 0
 unfolding logging_of

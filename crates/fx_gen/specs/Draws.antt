@@ -24,5 +24,5 @@ abbrev pub drawn_code : Coded Drawn
 drawn_code = code_by (ℕ × ℕ) (coded× coded_ℕ coded_ℕ) (λ d. (d.number, d.made)) (λ p. record { number = p.0; made = p.1 }) (λ _. refl)
 
 -- after so many more
-abbrev pub after : ℕ → Drawn → Drawn
-after n d = record { number = d.number; made = d.made + n }
+abbrev pub draws_after : ℕ → Drawn → Drawn
+draws_after n d = record { number = d.number; made = d.made + n }

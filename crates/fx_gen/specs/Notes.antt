@@ -64,8 +64,8 @@ abbrev pub placed_to : ℕ → ℕ → List Placed
 placed_to number n = placed_top number ++ flat_map (placed_project number) (range_with_len 0 n)
 
 -- all that stands in the filestore
-abbrev pub placed : ℕ → List Placed
-placed number = placed_to number 16
+abbrev pub all_placed : ℕ → List Placed
+all_placed number = placed_to number 16
 
 abbrev pub made : Placed → Change
 made e = record { path = e.0; node = Some e.1 }

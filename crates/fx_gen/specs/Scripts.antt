@@ -34,25 +34,25 @@ unfoldable pub kind_of : ℕ → ℕ → ℕ
 kind_of number t = draw number (258 + 2 * t) 4
 
 -- kind 3 logs, the others count
-abbrev pub line_of : ℕ → ℕ → ℕ → ℕ → List ℕ
-line_of kind p k j = if kind == 3 then log_line p k j else count_line p
+abbrev pub script_line : ℕ → ℕ → ℕ → ℕ → List ℕ
+script_line kind p k j = if kind == 3 then log_line p k j else count_line p
 
 abbrev pub txn_line : ℕ → ℕ → ℕ → List ℕ
-txn_line number k j = line_of (kind_of number (200 * k + j)) (project_of number (200 * k + j)) k j
+txn_line number k j = script_line (kind_of number (200 * k + j)) (project_of number (200 * k + j)) k j
 
 -- the lines of the first n transactions of a script, one after another
 unfoldable pub first_lines : ℕ → ℕ → ℕ → List ℕ
 first_lines number k n = flat_map (txn_line number k) (range_with_len 0 n)
 
-abbrev pub script_of : ℕ → ℕ → List ℕ
-script_of number k = first_lines number k 200
+abbrev pub generated_script : ℕ → ℕ → List ℕ
+generated_script number k = first_lines number k 200
 
 -- the first n scripts
 unfoldable pub scripts_to : ℕ → ℕ → List (List ℕ)
-scripts_to number n = map (script_of number) (range_with_len 0 n)
+scripts_to number n = map (generated_script number) (range_with_len 0 n)
 
-abbrev pub scripts : ℕ → List (List ℕ)
-scripts number = scripts_to number 8
+abbrev pub generated_scripts : ℕ → List (List ℕ)
+generated_scripts number = scripts_to number 8
 
 -- how many of the first transactions log
 unfoldable pub logging_of : ℕ → ℕ → ℕ

@@ -1,7 +1,7 @@
 ghost use Rattle.std.specs.Prelude.{◌≡◌, ◌<◌, ◌≤◌, ◌*◌, ◌++◌, ◌∷◌, [], IfOk, OnOk};
-ghost use Rattle.fx_gen.specs.Draws.{after};
+ghost use Rattle.fx_gen.specs.Draws.{draws_after};
 ghost use Rattle.fx_gen.specs.Notes.{nodes};
-ghost use Rattle.fx_gen.specs.Scripts.{description, scripts, script_of, scripts_to, counting_of, logging_of};
+ghost use Rattle.fx_gen.specs.Scripts.{description, generated_scripts, generated_script, scripts_to, counting_of, logging_of};
 
 use crate::draws::Draws;
 use crate::files::store;
@@ -42,7 +42,7 @@ impl Generated {
 pub fn generate(alloc: Global, number: u32) -> Result<Generated, NoMemory>
     ensures description { IfOk result (λ case. case.description ≡ description) }
     ensures store { IfOk result (λ case. case.store.nodes ≡ nodes number) }
-    ensures scripts { IfOk result (λ case. case.scripts ≡ scripts number) }
+    ensures scripts { IfOk result (λ case. case.scripts ≡ generated_scripts number) }
     ensures counted { IfOk result (λ case. case.counted ≡ counting_of number 1600) }
     ensures logged { IfOk result (λ case. case.logged ≡ logging_of number 1600) }
 {

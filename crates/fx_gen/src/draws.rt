@@ -1,6 +1,6 @@
 //! The draws of a number.
 ghost use Rattle.std.specs.Prelude.{◌≡◌, ◌<◌, ◌+◌};
-ghost use Rattle.fx_gen.specs.Draws.{Drawn, next, draw, after};
+ghost use Rattle.fx_gen.specs.Draws.{Drawn, next, draw, draws_after};
 
 use std::marker::Model;
 
@@ -47,7 +47,7 @@ impl Draws {
         requires few { self.old.made < MOST_DRAWS }
         ensures drawn { result ≡ draw self.old.number self.old.made below }
         ensures less { result < below }
-        ensures made { self.new ≡ after 1 self.old }
+        ensures made { self.new ≡ draws_after 1 self.old }
     {
         self.state = next(self.state);
         self.made += 1;

@@ -4,7 +4,7 @@ ghost use Rattle.std.specs.List.{flat_map, range_with_len};
 ghost use Rattle.fx_store.specs.Names.{IsName};
 ghost use Rattle.fx_store.specs.Faults.{read_link};
 ghost use Rattle.fx_store.specs.declared.limits.TheConstants.{MAX_FILE_BYTES, MAX_PATH_NAMES};
-ghost use Rattle.fx_gen.specs.Draws.{draw, after};
+ghost use Rattle.fx_gen.specs.Draws.{draw, draws_after};
 ghost use Rattle.fx_store.specs.declared.node.Node.TheVariants as Node;
 ghost use Rattle.fx_gen.specs.Notes.{Placed, project, note_name, projects, note_names, part_names, linked, note, config, made, placed_note, placed_parts, note_changes_to, changes_to, project_changes, nodes};
 
@@ -167,7 +167,7 @@ fn note_text(alloc: Global, draws: &mut Draws) -> Result<Vec<u8>, NoMemory>
         (1 + draw draws.old.number draws.old.made 64)
         (97 + draw draws.old.number (draws.old.made + 1) 26)) }
     ensures short { IfOk result (λ bytes. length bytes.items ≤ 64) }
-    ensures made { draws.new ≡ after 2 draws.old }
+    ensures made { draws.new ≡ draws_after 2 draws.old }
 {
     let length = 1 + draws.draw(64);
     let letter = b'a' + draws.draw(26) as u8;
@@ -191,7 +191,7 @@ fn add_note(
     ensures added { OnOk result
         (changes.new.items
         ≡ changes.old.items ++ made (placed_note draws.old.number number note) ∷ []) }
-    ensures made { draws.new ≡ after 2 draws.old }
+    ensures made { draws.new ≡ draws_after 2 draws.old }
 {
     let text = note_text(alloc, draws)?;
     add_file(alloc, changes, dir, &note_name(note), text)
@@ -212,7 +212,7 @@ fn add_notes(
         (changes.new.items
         ≡ changes.old.items ++ made (dir.now, Node.Dir note_names)
         ∷ note_changes_to draws.old.number number NOTES) }
-    ensures made { OnOk result (draws.new ≡ after 16 draws.old) }
+    ensures made { OnOk result (draws.new ≡ draws_after 16 draws.old) }
 {
     add(changes, dir.copy(alloc)?, Node::Dir(note_names(alloc)?))?;
     for note in 0..NOTES {
@@ -244,7 +244,7 @@ fn add_project(
     requires made { draws.old.made ≡ 1 + 2 * (NOTES * number) }
     ensures added { OnOk result
         (changes.new.items ≡ changes.old.items ++ project_changes draws.old.number number) }
-    ensures made { OnOk result (draws.new ≡ after 16 draws.old) }
+    ensures made { OnOk result (draws.new ≡ draws_after 16 draws.old) }
 {
     let dir = below(alloc, &Path::root(alloc), &project(number))?;
     add_parts(alloc, changes, &dir)?;
@@ -269,7 +269,7 @@ fn link_text(alloc: Global, bytes: &[u8]) -> Result<LinkText, NoMemory>
 fn link(alloc: Global, draws: &mut Draws) -> Result<LinkText, NoMemory>
     requires { draws.old.made ≡ 0 }
     ensures link { IfOk result (λ text. text ≡ linked draws.old.number) }
-    ensures made { draws.new ≡ after 1 draws.old }
+    ensures made { draws.new ≡ draws_after 1 draws.old }
 {
     let target = draws.draw(PROJECTS);
     link_text(alloc, &project(target))
@@ -280,7 +280,7 @@ fn add_top(alloc: Global, changes: &mut Vec<Change>, draws: &mut Draws) -> Resul
     requires { draws.old.made ≡ 0 }
     ensures added { OnOk result
         (changes.new.items ≡ changes.old.items ++ changes_to draws.old.number 0) }
-    ensures made { draws.new ≡ after 1 draws.old }
+    ensures made { draws.new ≡ draws_after 1 draws.old }
 {
     let target = link(alloc, draws)?;
     let root = Path::root(alloc);
@@ -294,7 +294,7 @@ fn add_top(alloc: Global, changes: &mut Vec<Change>, draws: &mut Draws) -> Resul
 fn changes(alloc: Global, draws: &mut Draws) -> Result<Changes, NoMemory>
     requires { draws.old.made ≡ 0 }
     ensures changes { IfOk result (λ changes. changes ≡ changes_to draws.old.number PROJECTS) }
-    ensures made { OnOk result (draws.new ≡ after 257 draws.old) }
+    ensures made { OnOk result (draws.new ≡ draws_after 257 draws.old) }
 {
     let mut changes = Vec::new(alloc);
     add_top(alloc, &mut changes, draws)?;
@@ -308,7 +308,7 @@ fn changes(alloc: Global, draws: &mut Draws) -> Result<Changes, NoMemory>
 pub(crate) fn store(alloc: Global, draws: &mut Draws) -> Result<Filestore, NoMemory>
     requires { draws.old.made ≡ 0 }
     ensures nodes { IfOk result (λ store. store.nodes ≡ nodes draws.old.number) }
-    ensures made { OnOk result (draws.new ≡ after 257 draws.old) }
+    ensures made { OnOk result (draws.new ≡ draws_after 257 draws.old) }
 {
     let changes = changes(alloc, draws)?;
     let mut store = Filestore::new(alloc)?;

@@ -3,9 +3,9 @@ ghost use Rattle.std.specs.Prelude.{◌≡◌, ◌==◌, ◌<◌, ◌≤◌, ◌
 ghost use Rattle.std.specs.Fmt.{decimal};
 ghost use Rattle.std.specs.List.{flat_map, range_with_len};
 ghost use Rattle.fx_base.specs.Limits.{source_limit};
-ghost use Rattle.fx_gen.specs.Draws.{after};
+ghost use Rattle.fx_gen.specs.Draws.{draws_after};
 ghost use Rattle.fx_gen.specs.Notes.{two_digits};
-ghost use Rattle.fx_gen.specs.Scripts.{front, tag, count_line, log_line, txn_line, kind_of, script_of, logging_of};
+ghost use Rattle.fx_gen.specs.Scripts.{front, tag, count_line, log_line, txn_line, kind_of, generated_script, logging_of};
 
 use crate::draws::Draws;
 use fx_base::NoMemory;
@@ -101,7 +101,7 @@ fn add_txn(out: &mut Vec<u8>, draws: &mut Draws, script: u32, place: u32) -> Res
         (out.new.items ≡ out.old.items ++ txn_line draws.old.number script place) }
     ensures logs { IfOk result
         (λ logs. logs ≡ (kind_of draws.old.number (TXNS * script + place) == 3)) }
-    ensures made { draws.new ≡ after 2 draws.old }
+    ensures made { draws.new ≡ draws_after 2 draws.old }
     ensures short { OnOk result (length out.new.items ≤ length out.old.items + LINE) }
 {
     let project = draws.draw(16);
@@ -125,9 +125,9 @@ pub(crate) fn script_text(
     requires made { draws.old.made ≡ 257 + 2 * (TXNS * script) }
     requires few { logging.old ≤ TXNS * script }
     requires logging { logging.old ≡ logging_of draws.old.number (TXNS * script) }
-    ensures text { IfOk result (λ text. text.items ≡ script_of draws.old.number script) }
+    ensures text { IfOk result (λ text. text.items ≡ generated_script draws.old.number script) }
     ensures short { IfOk result (λ text. length text.items ≤ source_limit) }
-    ensures made { OnOk result (draws.new ≡ after (2 * TXNS) draws.old) }
+    ensures made { OnOk result (draws.new ≡ draws_after (2 * TXNS) draws.old) }
     ensures few { OnOk result (logging.new ≤ TXNS * script + TXNS) }
     ensures logging { OnOk result
         (logging.new ≡ logging_of draws.old.number (TXNS * script + TXNS)) }

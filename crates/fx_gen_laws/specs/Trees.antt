@@ -11,7 +11,7 @@ use Rattle.fx_spec.specs.CommandTree.{ActTree, CommandTree}
 use Rattle.fx_spec.specs.WellShaped as shaped
 use Rattle.fx_grammar.specs.Texts.{IsDescription, IsScript}
 use Rattle.fx_gen.specs.Notes.{project}
-use Rattle.fx_gen.specs.Scripts.{description, count_line, log_line, tag, kind_of, project_of, script_of}
+use Rattle.fx_gen.specs.Scripts.{description, count_line, log_line, tag, kind_of, project_of, generated_script}
 
 -- ---- the description
 
@@ -88,4 +88,4 @@ pub record StandsForScript (text : List ℕ) (txns : List (List CommandTree)) : 
   pub count : length txns ≡ 200
 
 abbrev pub ScriptsStand : Type 0
-ScriptsStand = (number k : ℕ) → k < 8 → StandsForScript (script_of number k) (script_tree number k)
+ScriptsStand = (number k : ℕ) → k < 8 → StandsForScript (generated_script number k) (script_tree number k)

@@ -11,8 +11,8 @@ use Rattle.std.proofs.lemmas.List.Splits.{length-slice_split, join_with_byte-sli
 use Rattle.fx_base.proofs.Results.{chosen_some}
 use Rattle.fx_base.proofs.Orders.{nat_list_exact}
 use Rattle.fx_words.specs.Forms.{word_of, commands, named_in, command_named, is_count, is_count_with_views}
-use Rattle.fx_words.specs.Job.{Plain, Scheduled, Watched, RunJob, ShowJob, GenJob, AuditJob, JournalJob, RecoverJob, ViewsJob, Job, Run, Show, Gen, Large, Audit, Journal, Recover, Views, numbered, shell_named, shells_named, is_comma, schedule_of, are_plain, run_job, scheduled_job, audit_job, journal_job, recover_job, views_job, show_job, number_of, gen_job, command_job, named_job}
-use Rattle.fx_ground_laws.specs.Worded.{schedule_word, words_of, JobsTellTheirWords}
+use Rattle.fx_words.specs.Job.{Plain, Scheduled, Watched, RunJob, ShowJob, GenJob, AuditJob, JournalJob, RecoverJob, ViewsJob, Job, Run, Show, Gen, Large, Audit, Journal, Recover, Views, numbered, shell_named, shells_named, is_comma, schedule_of, are_plain, run_job, scheduled_job, audit_job, journal_job, recover_job, views_job, show_job, decimal_number, gen_job, command_job, named_job}
+use Rattle.fx_ground_laws.specs.Worded.{schedule_word, job_words, JobsTellTheirWords}
 
 abbrev Words : Type 0
 Words = List (List ℕ)
@@ -59,16 +59,16 @@ schedule_is count text shells e = by (bytes_eq text (codes "none")) refl e
 
 -- ---- commands
 
-run_is : (args : Words) (j : RunJob) → run_job args ≡ Some j → codes "run" ∷ args ≡ words_of (Run j)
+run_is : (args : Words) (j : RunJob) → run_job args ≡ Some j → codes "run" ∷ args ≡ job_words (Run j)
 run_is [] j e = cc
 run_is (a ∷ []) j e = cc
 run_is (a ∷ b ∷ []) j e = cc
 run_is (spec ∷ folder ∷ out ∷ scripts) j e =
     let is = chosen_some (is_count (length scripts)) (Some (record { inputs = record { spec = spec; folder = folder; scripts = scripts; first = 4 }; out = out; mode = Plain })) j e in
     let same : record { inputs = record { spec = spec; folder = folder; scripts = scripts; first = 4 }; out = out; mode = Plain } ≡ j = cc in
-    ap (λ j. words_of (Run j)) same
+    ap (λ j. job_words (Run j)) same
 
-trace_is : (args : Words) (j : RunJob) → scheduled_job Scheduled args ≡ Some j → codes "trace" ∷ args ≡ words_of (Run j)
+trace_is : (args : Words) (j : RunJob) → scheduled_job Scheduled args ≡ Some j → codes "trace" ∷ args ≡ job_words (Run j)
 trace_is [] j e = cc
 trace_is (a ∷ []) j e = cc
 trace_is (a ∷ b ∷ []) j e = cc
@@ -76,9 +76,9 @@ trace_is (a ∷ b ∷ c ∷ []) j e = cc
 trace_is (spec ∷ folder ∷ out ∷ schedule ∷ scripts) j e =
     let job : List ℕ → RunJob = λ shells. record { inputs = record { spec = spec; folder = folder; scripts = scripts; first = 5 }; out = out; mode = Scheduled shells } in
     let is = mapped job (schedule_of (length scripts) schedule) j (chosen_some (is_count (length scripts)) (option_map job (schedule_of (length scripts) schedule)) j e).1 in
-    ap (λ t. codes "trace" ∷ spec ∷ folder ∷ out ∷ t ∷ scripts) (schedule_is (length scripts) schedule is.0 is.1) ∙ ap (λ j. words_of (Run j)) is.2
+    ap (λ t. codes "trace" ∷ spec ∷ folder ∷ out ∷ t ∷ scripts) (schedule_is (length scripts) schedule is.0 is.1) ∙ ap (λ j. job_words (Run j)) is.2
 
-watch_is : (args : Words) (j : RunJob) → scheduled_job Watched args ≡ Some j → codes "watch" ∷ args ≡ words_of (Run j)
+watch_is : (args : Words) (j : RunJob) → scheduled_job Watched args ≡ Some j → codes "watch" ∷ args ≡ job_words (Run j)
 watch_is [] j e = cc
 watch_is (a ∷ []) j e = cc
 watch_is (a ∷ b ∷ []) j e = cc
@@ -86,12 +86,12 @@ watch_is (a ∷ b ∷ c ∷ []) j e = cc
 watch_is (spec ∷ folder ∷ out ∷ schedule ∷ scripts) j e =
     let job : List ℕ → RunJob = λ shells. record { inputs = record { spec = spec; folder = folder; scripts = scripts; first = 5 }; out = out; mode = Watched shells } in
     let is = mapped job (schedule_of (length scripts) schedule) j (chosen_some (is_count (length scripts)) (option_map job (schedule_of (length scripts) schedule)) j e).1 in
-    ap (λ t. codes "watch" ∷ spec ∷ folder ∷ out ∷ t ∷ scripts) (schedule_is (length scripts) schedule is.0 is.1) ∙ ap (λ j. words_of (Run j)) is.2
+    ap (λ t. codes "watch" ∷ spec ∷ folder ∷ out ∷ t ∷ scripts) (schedule_is (length scripts) schedule is.0 is.1) ∙ ap (λ j. job_words (Run j)) is.2
 
-show_is : (args : Words) (j : ShowJob) → show_job args ≡ Some j → codes "show" ∷ args ≡ words_of (Show j)
+show_is : (args : Words) (j : ShowJob) → show_job args ≡ Some j → codes "show" ∷ args ≡ job_words (Show j)
 show_is [] j e = cc
 show_is (a ∷ []) j e = cc
-show_is (spec ∷ folder ∷ []) j e = let same : record { spec = spec; folder = folder } ≡ j = cc in ap (λ j. words_of (Show j)) same
+show_is (spec ∷ folder ∷ []) j e = let same : record { spec = spec; folder = folder } ≡ j = cc in ap (λ j. job_words (Show j)) same
 show_is (a ∷ b ∷ c ∷ args) j e = cc
 
 gen_is : (args : Words) (j : GenJob) → gen_job args ≡ Some j → decimal j.number ∷ j.out ∷ [] ≡ args
@@ -100,22 +100,22 @@ gen_is (a ∷ []) j e = cc
 gen_is (a ∷ b ∷ c ∷ args) j e = cc
 gen_is (number ∷ out ∷ []) j e =
     let job : ℕ → GenJob = λ n. record { number = n; out = out } in
-    let is = mapped job (number_of number) j e in
+    let is = mapped job (decimal_number number) j e in
     let value = digits_value 10 number in
     let number_is = chosen_some (bytes_eq (decimal value) number && nat_lt value (2 ^ 32)) (Some value) is.0 is.1 in
     let same : value ≡ is.0 = cc in
     ap (λ (j : GenJob). decimal j.number ∷ j.out ∷ []) (sym is.2) ∙ ap (λ t. t ∷ out ∷ []) (ap decimal (sym same) ∙ nat_list_exact (decimal value) number (and_parts (bytes_eq (decimal value) number) (nat_lt value (2 ^ 32)) number_is.0).0)
 
-audit_is : (args : Words) (j : AuditJob) → audit_job args ≡ Some j → codes "audit" ∷ args ≡ words_of (Audit j)
+audit_is : (args : Words) (j : AuditJob) → audit_job args ≡ Some j → codes "audit" ∷ args ≡ job_words (Audit j)
 audit_is [] j e = cc
 audit_is (a ∷ []) j e = cc
 audit_is (a ∷ b ∷ []) j e = cc
 audit_is (spec ∷ folder ∷ report ∷ scripts) j e =
     let is = chosen_some (is_count (length scripts)) (Some (record { inputs = record { spec = spec; folder = folder; scripts = scripts; first = 4 }; report = report })) j e in
     let same : record { inputs = record { spec = spec; folder = folder; scripts = scripts; first = 4 }; report = report } ≡ j = cc in
-    ap (λ j. words_of (Audit j)) same
+    ap (λ j. job_words (Audit j)) same
 
-journal_is : (args : Words) (j : JournalJob) → journal_job args ≡ Some j → codes "journal" ∷ args ≡ words_of (Journal j)
+journal_is : (args : Words) (j : JournalJob) → journal_job args ≡ Some j → codes "journal" ∷ args ≡ job_words (Journal j)
 journal_is [] j e = cc
 journal_is (a ∷ []) j e = cc
 journal_is (a ∷ b ∷ []) j e = cc
@@ -124,9 +124,9 @@ journal_is (a ∷ b ∷ c ∷ d ∷ []) j e = cc
 journal_is (spec ∷ folder ∷ out ∷ journal ∷ schedule ∷ scripts) j e =
     let job : List ℕ → JournalJob = λ shells. record { run = record { inputs = record { spec = spec; folder = folder; scripts = scripts; first = 6 }; out = out; mode = Scheduled shells }; journal = journal } in
     let is = mapped job (schedule_of (length scripts) schedule) j (chosen_some (is_count (length scripts)) (option_map job (schedule_of (length scripts) schedule)) j e).1 in
-    ap (λ t. codes "journal" ∷ spec ∷ folder ∷ out ∷ journal ∷ t ∷ scripts) (schedule_is (length scripts) schedule is.0 is.1) ∙ ap (λ j. words_of (Journal j)) is.2
+    ap (λ t. codes "journal" ∷ spec ∷ folder ∷ out ∷ journal ∷ t ∷ scripts) (schedule_is (length scripts) schedule is.0 is.1) ∙ ap (λ j. job_words (Journal j)) is.2
 
-recover_is : (args : Words) (j : RecoverJob) → recover_job args ≡ Some j → codes "recover" ∷ args ≡ words_of (Recover j)
+recover_is : (args : Words) (j : RecoverJob) → recover_job args ≡ Some j → codes "recover" ∷ args ≡ job_words (Recover j)
 recover_is [] j e = cc
 recover_is (a ∷ []) j e = cc
 recover_is (a ∷ b ∷ []) j e = cc
@@ -134,9 +134,9 @@ recover_is (a ∷ b ∷ c ∷ []) j e = cc
 recover_is (spec ∷ folder ∷ journal ∷ out ∷ scripts) j e =
     let is = chosen_some (is_count (length scripts)) (Some (record { inputs = record { spec = spec; folder = folder; scripts = scripts; first = 5 }; journal = journal; out = out })) j e in
     let same : record { inputs = record { spec = spec; folder = folder; scripts = scripts; first = 5 }; journal = journal; out = out } ≡ j = cc in
-    ap (λ j. words_of (Recover j)) same
+    ap (λ j. job_words (Recover j)) same
 
-views_is : (args : Words) (j : ViewsJob) → views_job args ≡ Some j → codes "views" ∷ args ≡ words_of (Views j)
+views_is : (args : Words) (j : ViewsJob) → views_job args ≡ Some j → codes "views" ∷ args ≡ job_words (Views j)
 views_is [] j e = cc
 views_is (a ∷ []) j e = cc
 views_is (a ∷ b ∷ []) j e = cc
@@ -144,7 +144,7 @@ views_is (a ∷ b ∷ c ∷ []) j e = cc
 views_is (spec ∷ folder ∷ out ∷ views ∷ scripts) j e =
     let is = chosen_some (is_count_with_views (length scripts)) (Some (record { inputs = record { spec = spec; folder = folder; scripts = scripts; first = 5 }; out = out; views = views })) j e in
     let same : record { inputs = record { spec = spec; folder = folder; scripts = scripts; first = 5 }; out = out; views = views } ≡ j = cc in
-    ap (λ j. words_of (Views j)) same
+    ap (λ j. job_words (Views j)) same
 
 -- the word that names a command is one of the ten
 abbrev OneOf : List ℕ → Words → Type 0
@@ -160,19 +160,19 @@ one_of (n ∷ ns) word name e = by (bytes_eq (word_of n) word) refl e (one_of ns
     by false is h rest = inr (rest h)
 
 abbrev Asks : List ℕ → Words → Job → Type 0
-Asks word args job = named_job word args ≡ Some job → word ∷ args ≡ words_of job
+Asks word args job = named_job word args ≡ Some job → word ∷ args ≡ job_words job
 
 asks : (word : List ℕ) (args : Words) (job : Job) → OneOf word (map word_of commands) → Asks word args job
-asks word args job (inl e) = subst (λ w. Asks w args job) e (λ h. let is = mapped Run (run_job args) job h in run_is args is.0 is.1 ∙ ap words_of is.2)
-asks word args job (inr (inl e)) = subst (λ w. Asks w args job) e (λ h. let is = mapped Run (scheduled_job Scheduled args) job h in trace_is args is.0 is.1 ∙ ap words_of is.2)
-asks word args job (inr (inr (inl e))) = subst (λ w. Asks w args job) e (λ h. let is = mapped Show (show_job args) job h in show_is args is.0 is.1 ∙ ap words_of is.2)
-asks word args job (inr (inr (inr (inl e)))) = subst (λ w. Asks w args job) e (λ h. let is = mapped Gen (gen_job args) job h in ap (λ rest. codes "gen" ∷ rest) (sym (gen_is args is.0 is.1)) ∙ ap words_of is.2)
-asks word args job (inr (inr (inr (inr (inl e))))) = subst (λ w. Asks w args job) e (λ h. let is = mapped Large (gen_job args) job h in ap (λ rest. codes "large" ∷ rest) (sym (gen_is args is.0 is.1)) ∙ ap words_of is.2)
-asks word args job (inr (inr (inr (inr (inr (inl e)))))) = subst (λ w. Asks w args job) e (λ h. let is = mapped Audit (audit_job args) job h in audit_is args is.0 is.1 ∙ ap words_of is.2)
-asks word args job (inr (inr (inr (inr (inr (inr (inl e))))))) = subst (λ w. Asks w args job) e (λ h. let is = mapped Run (scheduled_job Watched args) job h in watch_is args is.0 is.1 ∙ ap words_of is.2)
-asks word args job (inr (inr (inr (inr (inr (inr (inr (inl e)))))))) = subst (λ w. Asks w args job) e (λ h. let is = mapped Journal (journal_job args) job h in journal_is args is.0 is.1 ∙ ap words_of is.2)
-asks word args job (inr (inr (inr (inr (inr (inr (inr (inr (inl e))))))))) = subst (λ w. Asks w args job) e (λ h. let is = mapped Recover (recover_job args) job h in recover_is args is.0 is.1 ∙ ap words_of is.2)
-asks word args job (inr (inr (inr (inr (inr (inr (inr (inr (inr (inl e)))))))))) = subst (λ w. Asks w args job) e (λ h. let is = mapped Views (views_job args) job h in views_is args is.0 is.1 ∙ ap words_of is.2)
+asks word args job (inl e) = subst (λ w. Asks w args job) e (λ h. let is = mapped Run (run_job args) job h in run_is args is.0 is.1 ∙ ap job_words is.2)
+asks word args job (inr (inl e)) = subst (λ w. Asks w args job) e (λ h. let is = mapped Run (scheduled_job Scheduled args) job h in trace_is args is.0 is.1 ∙ ap job_words is.2)
+asks word args job (inr (inr (inl e))) = subst (λ w. Asks w args job) e (λ h. let is = mapped Show (show_job args) job h in show_is args is.0 is.1 ∙ ap job_words is.2)
+asks word args job (inr (inr (inr (inl e)))) = subst (λ w. Asks w args job) e (λ h. let is = mapped Gen (gen_job args) job h in ap (λ rest. codes "gen" ∷ rest) (sym (gen_is args is.0 is.1)) ∙ ap job_words is.2)
+asks word args job (inr (inr (inr (inr (inl e))))) = subst (λ w. Asks w args job) e (λ h. let is = mapped Large (gen_job args) job h in ap (λ rest. codes "large" ∷ rest) (sym (gen_is args is.0 is.1)) ∙ ap job_words is.2)
+asks word args job (inr (inr (inr (inr (inr (inl e)))))) = subst (λ w. Asks w args job) e (λ h. let is = mapped Audit (audit_job args) job h in audit_is args is.0 is.1 ∙ ap job_words is.2)
+asks word args job (inr (inr (inr (inr (inr (inr (inl e))))))) = subst (λ w. Asks w args job) e (λ h. let is = mapped Run (scheduled_job Watched args) job h in watch_is args is.0 is.1 ∙ ap job_words is.2)
+asks word args job (inr (inr (inr (inr (inr (inr (inr (inl e)))))))) = subst (λ w. Asks w args job) e (λ h. let is = mapped Journal (journal_job args) job h in journal_is args is.0 is.1 ∙ ap job_words is.2)
+asks word args job (inr (inr (inr (inr (inr (inr (inr (inr (inl e))))))))) = subst (λ w. Asks w args job) e (λ h. let is = mapped Recover (recover_job args) job h in recover_is args is.0 is.1 ∙ ap job_words is.2)
+asks word args job (inr (inr (inr (inr (inr (inr (inr (inr (inr (inl e)))))))))) = subst (λ w. Asks w args job) e (λ h. let is = mapped Views (views_job args) job h in views_is args is.0 is.1 ∙ ap job_words is.2)
 asks word args job (inr (inr (inr (inr (inr (inr (inr (inr (inr (inr none)))))))))) = absurd none
 
 pub jobs_tell_their_words : JobsTellTheirWords

@@ -15,16 +15,16 @@ run_words (Scheduled shells) i out = codes "trace" ∷ i.spec ∷ i.folder ∷ o
 run_words (Watched shells) i out = codes "watch" ∷ i.spec ∷ i.folder ∷ out ∷ schedule_word shells ∷ i.scripts
 
 -- a job as words: the command, and its arguments in their order
-abbrev pub words_of : Job → List (List ℕ)
-words_of (Run j) = run_words j.mode j.inputs j.out
-words_of (Show j) = codes "show" ∷ j.spec ∷ j.folder ∷ []
-words_of (Gen j) = codes "gen" ∷ decimal j.number ∷ j.out ∷ []
-words_of (Large j) = codes "large" ∷ decimal j.number ∷ j.out ∷ []
-words_of (Audit j) = codes "audit" ∷ j.inputs.spec ∷ j.inputs.folder ∷ j.report ∷ j.inputs.scripts
-words_of (Journal j) = codes "journal" ∷ j.run.inputs.spec ∷ j.run.inputs.folder ∷ j.run.out ∷ j.journal ∷ schedule_word (shells_of j.run) ∷ j.run.inputs.scripts
-words_of (Recover j) = codes "recover" ∷ j.inputs.spec ∷ j.inputs.folder ∷ j.journal ∷ j.out ∷ j.inputs.scripts
-words_of (Views j) = codes "views" ∷ j.inputs.spec ∷ j.inputs.folder ∷ j.out ∷ j.views ∷ j.inputs.scripts
+abbrev pub job_words : Job → List (List ℕ)
+job_words (Run j) = run_words j.mode j.inputs j.out
+job_words (Show j) = codes "show" ∷ j.spec ∷ j.folder ∷ []
+job_words (Gen j) = codes "gen" ∷ decimal j.number ∷ j.out ∷ []
+job_words (Large j) = codes "large" ∷ decimal j.number ∷ j.out ∷ []
+job_words (Audit j) = codes "audit" ∷ j.inputs.spec ∷ j.inputs.folder ∷ j.report ∷ j.inputs.scripts
+job_words (Journal j) = codes "journal" ∷ j.run.inputs.spec ∷ j.run.inputs.folder ∷ j.run.out ∷ j.journal ∷ schedule_word (shells_of j.run) ∷ j.run.inputs.scripts
+job_words (Recover j) = codes "recover" ∷ j.inputs.spec ∷ j.inputs.folder ∷ j.journal ∷ j.out ∷ j.inputs.scripts
+job_words (Views j) = codes "views" ∷ j.inputs.spec ∷ j.inputs.folder ∷ j.out ∷ j.views ∷ j.inputs.scripts
 
 -- words that ask for a job are the job's
 abbrev pub JobsTellTheirWords : Type 0
-JobsTellTheirWords = (words : List (List ℕ)) (job : Job) → job_of words ≡ Some job → words ≡ words_of job
+JobsTellTheirWords = (words : List (List ℕ)) (job : Job) → job_of words ≡ Some job → words ≡ job_words job

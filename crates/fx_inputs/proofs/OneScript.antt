@@ -14,13 +14,13 @@ use Rattle.fx_scripts.specs.declared.fault.ScriptFault.{ScriptFault}
 use Rattle.fx_scripts.specs.declared.fault.ScriptFault.TheVariants as refusal
 use Rattle.fx_scripts.specs.Scripted.{Scripts, IsNoScriptFor, IsUnscripted}
 use Rattle.fx_inputs.specs.Causes.{ScriptCause}
-use Rattle.fx_inputs.specs.Inputs.{HasNoScript, GoesOn}
+use Rattle.fx_inputs.specs.Inputs.{HasNoScript, HasMoreScripts}
 use Rattle.fx_inputs.specs.Unread.{of_host, of_script}
 
 abbrev Txns : Type 0
 Txns = List (List CommandTree)
 
-goes_on : (t : Tree) (path text : List ℕ) (before : ℕ) (txns : Txns) → IsReadAt t path source_limit text → Scripts text before txns → ((others : Txns) → Scripts text before others → others ≡ txns) → GoesOn t path before txns
+goes_on : (t : Tree) (path text : List ℕ) (before : ℕ) (txns : Txns) → IsReadAt t path source_limit text → Scripts text before txns → ((others : Txns) → Scripts text before others → others ≡ txns) → HasMoreScripts t path before txns
 goes_on t path text before txns read is only =
     let same : text ≡ bytes_at t path = read.whole is.read.short in
     record {
@@ -28,9 +28,9 @@ goes_on t path text before txns read is only =
       only = λ others other. only others (subst (λ x. Scripts x before others) (sym same) other);
     }
 
-pub script_read : (told : Option Tree) (path text : List ℕ) (before : ℕ) (txns : Txns) → IfSome told (λ t. IsReadAt t path source_limit text) → Scripts text before txns → ((others : Txns) → Scripts text before others → others ≡ txns) → IfSome told (λ t. GoesOn t path before txns)
+pub script_read : (told : Option Tree) (path text : List ℕ) (before : ℕ) (txns : Txns) → IfSome told (λ t. IsReadAt t path source_limit text) → Scripts text before txns → ((others : Txns) → Scripts text before others → others ≡ txns) → IfSome told (λ t. HasMoreScripts t path before txns)
 script_read told path text before txns read is only =
-    if_some_map (λ t. IsReadAt t path source_limit text) (λ t. GoesOn t path before txns) told (λ t read. goes_on t path text before txns read is only) read
+    if_some_map (λ t. IsReadAt t path source_limit text) (λ t. HasMoreScripts t path before txns) told (λ t read. goes_on t path text before txns read is only) read
 
 -- a text that is within its limit was read whole; else so many bytes were read that it is none
 whole : (t : Tree) (path text : List ℕ) (before : ℕ) (cause : TextFault) → IsReadAt t path source_limit text → length text ≤ 65536 → IsNoScriptFor text before cause → IsNoScriptFor (bytes_at t path) before cause

@@ -17,12 +17,12 @@ use Rattle.fx_spec.specs.WellShaped.{IsScript}
 use Rattle.fx_spec.specs.Plans.{IsPlan, count_of}
 use Rattle.fx_command.specs.declared.status.TextFault.{TextFault}
 use Rattle.fx_command.proofs.Told.{if_some_map}
-use Rattle.fx_words.specs.Job.{Inputs, place_of}
+use Rattle.fx_words.specs.Job.{Inputs, script_place}
 use Rattle.fx_inputs.specs.declared.scripts.ScriptUnread.{ScriptUnread}
 use Rattle.fx_inputs.specs.declared.scripts.ScriptUnread.TheVariants as script
 use Rattle.fx_inputs.specs.Causes.{ScriptCause, UnreadCause}
 use Rattle.fx_inputs.specs.Unread.{unread_at}
-use Rattle.fx_inputs.specs.Inputs.{HasScripts, AreOnlyScripts, StopsAtScript, IsReached, GoesOn, HasNoScript, LacksFile}
+use Rattle.fx_inputs.specs.Inputs.{HasScripts, AreOnlyScripts, StopsAtScript, IsScriptReached, HasMoreScripts, HasNoScript, LacksFile}
 use Rattle.fx_inputs.specs.Reads.{FailsAtScript}
 
 abbrev Plan : Type 0
@@ -47,7 +47,7 @@ pub record IsFront (t : Tree) (paths : Paths) (plan : Plan) (i before : ℕ) : T
   pub only : (others : Plan) → HasScripts t 0 paths others → BeginsWith t paths plan i before others
   pub refused : (cause : TextFault) (k : ℕ) → StopsAtScript (HasNoScript cause) t before (drop i paths) k → StopsAtScript (HasNoScript cause) t 0 paths (i + k)
   pub lacking : (k : ℕ) → StopsAtScript LacksFile t before (drop i paths) k → StopsAtScript LacksFile t 0 paths (i + k)
-  pub reached : (k : ℕ) → StopsAtScript IsReached t before (drop i paths) k → StopsAtScript IsReached t 0 paths (i + k)
+  pub reached : (k : ℕ) → StopsAtScript IsScriptReached t before (drop i paths) k → StopsAtScript IsScriptReached t 0 paths (i + k)
 
 front_empty : (t : Tree) (paths : Paths) → IsFront t paths [] 0 0
 front_empty t paths = record {
@@ -55,15 +55,15 @@ front_empty t paths = record {
   only = λ others has. record { more = others; is = refl; follow = has };
   refused = λ cause k stops. subst (λ n. StopsAtScript (HasNoScript cause) t 0 paths n) (omega arith) stops;
   lacking = λ k stops. subst (λ n. StopsAtScript LacksFile t 0 paths n) (omega arith) stops;
-  reached = λ k stops. subst (λ n. StopsAtScript IsReached t 0 paths n) (omega arith) stops;
+  reached = λ k stops. subst (λ n. StopsAtScript IsScriptReached t 0 paths n) (omega arith) stops;
 }
 
 -- a stop behind one more script that is read
-stop_later : (S : Tree → List ℕ → ℕ → Type 0) (t : Tree) (path : List ℕ) (before k : ℕ) (txns : List (List CommandTree)) (left paths : Paths) → left ≡ path ∷ paths → GoesOn t path before txns → StopsAtScript S t (before + length txns) paths k → StopsAtScript S t before left (k + 1)
+stop_later : (S : Tree → List ℕ → ℕ → Type 0) (t : Tree) (path : List ℕ) (before k : ℕ) (txns : List (List CommandTree)) (left paths : Paths) → left ≡ path ∷ paths → HasMoreScripts t path before txns → StopsAtScript S t (before + length txns) paths k → StopsAtScript S t before left (k + 1)
 stop_later S t path before k txns left paths is goes stops = subst (λ ps. StopsAtScript S t before ps (k + 1)) (sym is) (inr (k, refl, txns, goes, stops))
 
 -- one script more that they begin with
-begins_on : (t : Tree) (paths left : Paths) (plan others : Plan) (i before : ℕ) (path : List ℕ) (txns : List (List CommandTree)) (more : Plan) → left ≡ path ∷ drop (i + 1) paths → GoesOn t path before txns → others ≡ plan ++ more → HasScripts t before left more → BeginsWith t paths (plan ++ txns ∷ []) (i + 1) (before + length txns) others
+begins_on : (t : Tree) (paths left : Paths) (plan others : Plan) (i before : ℕ) (path : List ℕ) (txns : List (List CommandTree)) (more : Plan) → left ≡ path ∷ drop (i + 1) paths → HasMoreScripts t path before txns → others ≡ plan ++ more → HasScripts t before left more → BeginsWith t paths (plan ++ txns ∷ []) (i + 1) (before + length txns) others
 begins_on t paths left plan others i before path txns [] is goes same has = absurd (subst (λ ps. HasScripts t before ps []) is has)
 begins_on t paths left plan others i before path txns (first ∷ more) is goes same has =
     let both = subst (λ ps. HasScripts t before ps (first ∷ more)) is has in
@@ -74,7 +74,7 @@ begins_on t paths left plan others i before path txns (first ∷ more) is goes s
       follow = subst (λ x. HasScripts t (before + length x) (drop (i + 1) paths) more) one both.1;
     }
 
-front_more : (t : Tree) (paths : Paths) (plan : Plan) (i before : ℕ) (path : List ℕ) (txns : List (List CommandTree)) → slice_get paths i ≡ Some path → GoesOn t path before txns → IsFront t paths plan i before → IsFront t paths (plan ++ txns ∷ []) (i + 1) (before + length txns)
+front_more : (t : Tree) (paths : Paths) (plan : Plan) (i before : ℕ) (path : List ℕ) (txns : List (List CommandTree)) → slice_get paths i ≡ Some path → HasMoreScripts t path before txns → IsFront t paths plan i before → IsFront t paths (plan ++ txns ∷ []) (i + 1) (before + length txns)
 front_more t paths plan i before path txns at goes was =
     let left = drop_next paths i path at in
     record {
@@ -82,7 +82,7 @@ front_more t paths plan i before path txns at goes was =
       only = λ others has. let first = was.only others has in begins_on t paths (drop i paths) plan others i before path txns first.more left goes first.is first.follow;
       refused = λ cause k stops. subst (λ n. StopsAtScript (HasNoScript cause) t 0 paths n) (omega arith) (was.refused cause (k + 1) (stop_later (HasNoScript cause) t path before k txns (drop i paths) (drop (i + 1) paths) left goes stops));
       lacking = λ k stops. subst (λ n. StopsAtScript LacksFile t 0 paths n) (omega arith) (was.lacking (k + 1) (stop_later LacksFile t path before k txns (drop i paths) (drop (i + 1) paths) left goes stops));
-      reached = λ k stops. subst (λ n. StopsAtScript IsReached t 0 paths n) (omega arith) (was.reached (k + 1) (stop_later IsReached t path before k txns (drop i paths) (drop (i + 1) paths) left goes stops));
+      reached = λ k stops. subst (λ n. StopsAtScript IsScriptReached t 0 paths n) (omega arith) (was.reached (k + 1) (stop_later IsScriptReached t path before k txns (drop i paths) (drop (i + 1) paths) left goes stops));
     }
 
 -- between two scripts
@@ -121,9 +121,9 @@ pub fits_alone : (plan : Plan) (script : List (List CommandTree)) → plan ≡ [
 fits_alone plan script none is few =
     subst (λ p. IsPlan (p ++ script ∷ [])) (sym none) (fits [] script 0 (record { scripts = All-nil IsScript; shells = omega arith; few = omega arith }) refl is (omega arith) (omega (arith, few)))
 
-front_goes_on : (told told' : Option Tree) (paths : Paths) (plan : Plan) (i before : ℕ) (path : List ℕ) (script : List (List CommandTree)) → told' ≡ told → slice_get paths i ≡ Some path → IfSome told (λ t. IsFront t paths plan i before) → IfSome told' (λ t. GoesOn t path before script) → IfSome told (λ t. IsFront t paths (plan ++ script ∷ []) (i + 1) (before + length script))
+front_goes_on : (told told' : Option Tree) (paths : Paths) (plan : Plan) (i before : ℕ) (path : List ℕ) (script : List (List CommandTree)) → told' ≡ told → slice_get paths i ≡ Some path → IfSome told (λ t. IsFront t paths plan i before) → IfSome told' (λ t. HasMoreScripts t path before script) → IfSome told (λ t. IsFront t paths (plan ++ script ∷ []) (i + 1) (before + length script))
 front_goes_on None told' paths plan i before path script same at was goes = tt
-front_goes_on (Some t) told' paths plan i before path script same at was goes = front_more t paths plan i before path script at (subst (λ o. IfSome o (λ t. GoesOn t path before script)) same goes) was
+front_goes_on (Some t) told' paths plan i before path script same at was goes = front_more t paths plan i before path script at (subst (λ o. IfSome o (λ t. HasMoreScripts t path before script)) same goes) was
 
 -- each of the paths that a fence lets through
 let_at : (may : List ℕ → Bool) (paths : Paths) (i : ℕ) (path : List ℕ) → slice_get paths i ≡ Some path → list_all may paths ≡ true → may path ≡ true
@@ -134,7 +134,7 @@ let_at may (p ∷ paths) (suc i) path at all = let_at may paths i path at (secon
 lets_on : (old now : HostView) (paths : Paths) (i : ℕ) (path : List ℕ) → slice_get paths i ≡ Some path → now.guard ≡ old.guard → list_all old.guard.may_read paths ≡ true → now.guard.may_read path ≡ true
 lets_on old now paths i path at same all = subst (λ g. g.may_read path ≡ true) (sym same) (let_at old.guard.may_read paths i path at all)
 
-reads_one : (old now then : HostView) (paths : Paths) (plan : Plan) (i before : ℕ) (path : List ℕ) (script : List (List CommandTree)) → IsReading old now paths plan i before → slice_get paths i ≡ Some path → ReadsOnly now then → AsksAt path now then → IfSome now.told (λ t. GoesOn t path before script) → IsPlan (plan ++ script ∷ []) → IsReading old then paths (plan ++ script ∷ []) (i + 1) (before + length script)
+reads_one : (old now then : HostView) (paths : Paths) (plan : Plan) (i before : ℕ) (path : List ℕ) (script : List (List CommandTree)) → IsReading old now paths plan i before → slice_get paths i ≡ Some path → ReadsOnly now then → AsksAt path now then → IfSome now.told (λ t. HasMoreScripts t path before script) → IsPlan (plan ++ script ∷ []) → IsReading old then paths (plan ++ script ∷ []) (i + 1) (before + length script)
 reads_one old now then paths plan i before path script was at reads fit goes planned = record {
   reads = reads_then old now then was.reads reads;
   fit = λ all. fit (lets_on old now paths i path at (was.fit all) all) ∙ was.fit all;
@@ -149,7 +149,7 @@ count_pushed : (plan : Plan) (i : ℕ) (script : List (List CommandTree)) → le
 count_pushed plan i script is =
     ap (λ n. length (get_or (plan ++ script ∷ []) n [])) (sym is) ∙ ap (λ s. length s) (get_or-append_seam plan script [] [])
 
-pub reads_on : (old now then : HostView) (paths : Paths) (plan plan' : Plan) (i before count : ℕ) (path : List ℕ) (script : List (List CommandTree)) → IsReading old now paths plan i before → slice_get paths i ≡ Some path → plan' ≡ plan ++ script ∷ [] → count ≡ count_of plan' i → IsScript script → ReadsOnly now then → AsksAt path now then → IfSome now.told (λ t. GoesOn t path before script) → before + length script ≤ 100000 → length plan < 64 → IsReading old then paths plan' (i + 1) (before + count)
+pub reads_on : (old now then : HostView) (paths : Paths) (plan plan' : Plan) (i before count : ℕ) (path : List ℕ) (script : List (List CommandTree)) → IsReading old now paths plan i before → slice_get paths i ≡ Some path → plan' ≡ plan ++ script ∷ [] → count ≡ count_of plan' i → IsScript script → ReadsOnly now then → AsksAt path now then → IfSome now.told (λ t. HasMoreScripts t path before script) → before + length script ≤ 100000 → length plan < 64 → IsReading old then paths plan' (i + 1) (before + count)
 reads_on old now then paths plan plan' i before count path script was at pushed counted is reads fit goes few room =
     let one = reads_one old now then paths plan i before path script was at reads fit goes (fits plan script before was.planned was.sum is room few) in
     let adds : length script ≡ count = sym (count_pushed plan i script was.count) ∙ ap (λ p. count_of p i) (sym pushed) ∙ sym counted in
@@ -195,13 +195,13 @@ lacking_at : (t : Tree) (paths : Paths) (plan : Plan) (i before : ℕ) (path : L
 lacking_at t paths plan i before path at front none =
     subst (λ n. StopsAtScript LacksFile t 0 paths n) (omega arith) (front.lacking 0 (stop_here LacksFile t path before (drop i paths) (drop (i + 1) paths) (drop_next paths i path at) none))
 
-reached_at : (t : Tree) (paths : Paths) (plan : Plan) (i before : ℕ) (path : List ℕ) → slice_get paths i ≡ Some path → IsFront t paths plan i before → StopsAtScript IsReached t 0 paths i
+reached_at : (t : Tree) (paths : Paths) (plan : Plan) (i before : ℕ) (path : List ℕ) → slice_get paths i ≡ Some path → IsFront t paths plan i before → StopsAtScript IsScriptReached t 0 paths i
 reached_at t paths plan i before path at front =
-    subst (λ n. StopsAtScript IsReached t 0 paths n) (omega arith) (front.reached 0 (stop_here IsReached t path before (drop i paths) (drop (i + 1) paths) (drop_next paths i path at) tt))
+    subst (λ n. StopsAtScript IsScriptReached t 0 paths n) (omega arith) (front.reached 0 (stop_here IsScriptReached t path before (drop i paths) (drop (i + 1) paths) (drop_next paths i path at) tt))
 
-reached : (told : Option Tree) (paths : Paths) (plan : Plan) (i before : ℕ) (path : List ℕ) → slice_get paths i ≡ Some path → IfSome told (λ t. IsFront t paths plan i before) → IfSome told (λ t. StopsAtScript IsReached t 0 paths i)
+reached : (told : Option Tree) (paths : Paths) (plan : Plan) (i before : ℕ) (path : List ℕ) → slice_get paths i ≡ Some path → IfSome told (λ t. IsFront t paths plan i before) → IfSome told (λ t. StopsAtScript IsScriptReached t 0 paths i)
 reached told paths plan i before path at front =
-    if_some_map (λ t. IsFront t paths plan i before) (λ t. StopsAtScript IsReached t 0 paths i) told (λ t front. reached_at t paths plan i before path at front) front
+    if_some_map (λ t. IsFront t paths plan i before) (λ t. StopsAtScript IsScriptReached t 0 paths i) told (λ t front. reached_at t paths plan i before path at front) front
 
 refuses : (told now : Option Tree) (cause : TextFault) (paths : Paths) (plan : Plan) (i before : ℕ) (path : List ℕ) (word : ℕ) (place : ℕ → ℕ) → now ≡ told → word ≡ place i → slice_get paths i ≡ Some path → IfSome told (λ t. IsFront t paths plan i before) → IfSome now (λ t. HasNoScript cause t path before) → IfSome told (λ t. (i : ℕ) × (word ≡ place i) × StopsAtScript (HasNoScript cause) t 0 paths i)
 refuses None now cause paths plan i before path word place same is at front none = tt
@@ -223,8 +223,8 @@ fails old now then paths plan i before path was at (inl fault) = inl (record {
 fails old now then paths plan i before path was at (inr none) = inr (lacks old.told now.told paths plan i before path was.reads.same at was.front none)
 
 -- the script of number `i` is not read
-pub unread_here : (inputs : Inputs) (old now then : HostView) (plan : Plan) (i before : ℕ) (path : List ℕ) (word : ℕ) (fault : ScriptUnread) → IsReading old now inputs.scripts plan i before → slice_get inputs.scripts i ≡ Some path → word ≡ place_of inputs i → ScriptCause path before now then fault → UnreadCause inputs old then (unread_at word fault)
+pub unread_here : (inputs : Inputs) (old now then : HostView) (plan : Plan) (i before : ℕ) (path : List ℕ) (word : ℕ) (fault : ScriptUnread) → IsReading old now inputs.scripts plan i before → slice_get inputs.scripts i ≡ Some path → word ≡ script_place inputs i → ScriptCause path before now then fault → UnreadCause inputs old then (unread_at word fault)
 unread_here inputs old now then plan i before path word (script.Refused cause) was at is none =
-    refuses old.told now.told cause inputs.scripts plan i before path word (λ i. place_of inputs i) was.reads.same is at was.front none
+    refuses old.told now.told cause inputs.scripts plan i before path word (λ i. script_place inputs i) was.reads.same is at was.front none
 unread_here inputs old now then plan i before path word script.ReadFault was at is failed = fails old now then inputs.scripts plan i before path was at failed
 unread_here inputs old now then plan i before path word script.NoMemory was at is none = tt

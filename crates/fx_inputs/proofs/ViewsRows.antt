@@ -24,7 +24,7 @@ use Rattle.fx_inputs.specs.declared.scripts.ScriptUnread.{ScriptUnread}
 use Rattle.fx_inputs.specs.declared.scripts.ScriptUnread.TheVariants as script
 use Rattle.fx_inputs.specs.declared.views.TheConstants.{VIEWS_WORD}
 use Rattle.fx_inputs.specs.Causes.{ScriptCause}
-use Rattle.fx_inputs.specs.Inputs.{HasBase, HasScript, HasSpec, HasSomeSpec, HasNoScript, CannotRead, GoesOn, IsFirstRefused}
+use Rattle.fx_inputs.specs.Inputs.{HasBase, HasScript, HasSpec, HasSomeSpec, HasNoScript, CannotRead, HasMoreScripts, IsFirstRefused}
 use Rattle.fx_inputs.specs.Reads.{ReadRow}
 use Rattle.fx_inputs.specs.Unread.{unread_at, unread_status}
 use Rattle.fx_inputs.specs.Views.{CannotReadViews, HasBases, HasSomeViews, HasViewsAlone, HasViewsReadFault, ViewsFirstRefused, ViewsReadRow}
@@ -61,9 +61,9 @@ views_unread j host host' script.NoMemory spec none = tt
 abbrev Plan : Type 0
 Plan = List (List (List CommandTree))
 
-pub views_alone : (j : ViewsJob) (host : HostView) (script : List (List CommandTree)) (plan : Plan) → plan ≡ script ∷ [] → IfSome host.told (λ t. GoesOn t j.views 0 script) → IfSome host.told (λ t. HasViewsAlone t j plan)
+pub views_alone : (j : ViewsJob) (host : HostView) (script : List (List CommandTree)) (plan : Plan) → plan ≡ script ∷ [] → IfSome host.told (λ t. HasMoreScripts t j.views 0 script) → IfSome host.told (λ t. HasViewsAlone t j plan)
 views_alone j host script plan is goes =
-    if_some_map (λ t. GoesOn t j.views 0 script) (λ t. HasViewsAlone t j plan) host.told (λ t goes. subst (λ p. HasScript t j.views 0 (script_of p 0)) (sym is) goes.script) goes
+    if_some_map (λ t. HasMoreScripts t j.views 0 script) (λ t. HasViewsAlone t j plan) host.told (λ t goes. subst (λ p. HasScript t j.views 0 (script_of p 0)) (sym is) goes.script) goes
 
 pub some_views : (j : ViewsJob) (spec : SpecTree) (plan : Plan) (a b c : HostView) → ReadsOnly a b → ReadsOnly b c → IfSome a.told (λ t. HasSpec t j.inputs spec) → IfSome b.told (λ t. HasViewsAlone t j plan) → IfSome c.told (λ t. HasSomeViews t j)
 some_views j spec plan a b c first then has alone =

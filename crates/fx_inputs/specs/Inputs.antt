@@ -9,7 +9,7 @@ use Rattle.fx_spec.specs.Order.{BaseTree}
 use Rattle.fx_command.specs.declared.status.TextFault.{TextFault}
 use Rattle.fx_show.specs.Described.{Describes, IsRefusedFor}
 use Rattle.fx_scripts.specs.Scripted.{Scripts, IsNoScriptFor}
-use Rattle.fx_words.specs.Job.{Inputs, place_of}
+use Rattle.fx_words.specs.Job.{Inputs, script_place}
 
 -- the file at SPEC describes this; or its text is refused, first for this cause
 pub record HasSpec (t : Tree) (inputs : Inputs) (spec : SpecTree) : Type 0 where
@@ -41,7 +41,7 @@ HasScripts t before (path ∷ paths) [] = ⊥
 HasScripts t before (path ∷ paths) (txns ∷ plan) = HasScript t path before txns × HasScripts t (before + length txns) paths plan
 
 -- a script that is read, after which others follow
-pub record GoesOn (t : Tree) (path : List ℕ) (before : ℕ) (txns : List (List CommandTree)) : Type 0 where
+pub record HasMoreScripts (t : Tree) (path : List ℕ) (before : ℕ) (txns : List (List CommandTree)) : Type 0 where
   pub script : HasScript t path before txns
   pub only : IsOnlyScript t path before txns
 
@@ -49,11 +49,11 @@ pub record GoesOn (t : Tree) (path : List ℕ) (before : ℕ) (txns : List (List
 abbrev pub StopsAtScript : (Tree → List ℕ → ℕ → Type 0) → Tree → ℕ → List (List ℕ) → ℕ → Type 0
 StopsAtScript stops t before [] i = ⊥
 StopsAtScript stops t before (path ∷ paths) i =
-    ((i ≡ 0) × stops t path before) ⊎ ((k : ℕ) × (i ≡ k + 1) × (txns : List (List CommandTree)) × GoesOn t path before txns × StopsAtScript stops t (before + length txns) paths k)
+    ((i ≡ 0) × stops t path before) ⊎ ((k : ℕ) × (i ≡ k + 1) × (txns : List (List CommandTree)) × HasMoreScripts t path before txns × StopsAtScript stops t (before + length txns) paths k)
 
 -- reading comes to the script
-abbrev pub IsReached : Tree → List ℕ → ℕ → Type 0
-IsReached t path before = Unit {0}
+abbrev pub IsScriptReached : Tree → List ℕ → ℕ → Type 0
+IsScriptReached t path before = Unit {0}
 
 abbrev pub LacksFile : Tree → List ℕ → ℕ → Type 0
 LacksFile t path before = is_file_at t path ≡ false
@@ -95,4 +95,4 @@ CannotRead t inputs =
 -- the text of this word is the first that is refused, first for this cause
 abbrev pub IsFirstRefused : Tree → Inputs → ℕ → TextFault → Type 0
 IsFirstRefused t inputs word cause =
-    ((word ≡ 1) × HasNoSpec t inputs cause) ⊎ (HasSomeSpec t inputs × ((i : ℕ) × (word ≡ place_of inputs i) × StopsAtScript (HasNoScript cause) t 0 inputs.scripts i))
+    ((word ≡ 1) × HasNoSpec t inputs cause) ⊎ (HasSomeSpec t inputs × ((i : ℕ) × (word ≡ script_place inputs i) × StopsAtScript (HasNoScript cause) t 0 inputs.scripts i))

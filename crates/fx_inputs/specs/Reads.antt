@@ -6,7 +6,7 @@ use Rattle.fx_folder.specs.Loads.{IsRefused}
 use Rattle.fx_command.specs.declared.status.Status.{Status}
 use Rattle.fx_command.specs.declared.status.Status.TheVariants as status
 use Rattle.fx_words.specs.Job.{Inputs}
-use Rattle.fx_inputs.specs.Inputs.{StopsAtScript, IsReached, HasSomeSpec, HasTexts, CannotRead, IsFirstRefused}
+use Rattle.fx_inputs.specs.Inputs.{StopsAtScript, IsScriptReached, HasSomeSpec, HasTexts, CannotRead, IsFirstRefused}
 
 -- a fault at a script, where those before it are read
 pub record FailsAtScript (scripts : List (List ℕ)) (host host' : HostView) : Type 0 where
@@ -14,7 +14,7 @@ pub record FailsAtScript (scripts : List (List ℕ)) (host host' : HostView) : T
   pub path : List ℕ
   pub script : slice_get scripts number ≡ Some path
   pub fault : FaultAt path host host'
-  pub before : IfSome host.told (λ t. StopsAtScript IsReached t 0 scripts number)
+  pub before : IfSome host.told (λ t. StopsAtScript IsScriptReached t 0 scripts number)
 
 -- a fault at SPEC; at a script, where SPEC and the scripts before it are read; or in FOLDER, where the texts are read
 abbrev pub HasReadFault : Inputs → HostView → HostView → Type 0

@@ -4,7 +4,7 @@ ghost use Rattle.fx_base.specs.Limits.{txn_limit};
 ghost use Rattle.fx_outside.specs.Host.{ReadsOnly, AsksAt};
 ghost use Rattle.fx_spec.specs.WellShaped.{IsScript};
 ghost use Rattle.fx_words.specs.JobOf.{asked_inputs, AreInputs};
-ghost use Rattle.fx_inputs.specs.Inputs.{GoesOn, HasScripts, AreOnlyScripts};
+ghost use Rattle.fx_inputs.specs.Inputs.{HasMoreScripts, HasScripts, AreOnlyScripts};
 ghost use Rattle.fx_inputs.specs.Causes.{ScriptCause, UnreadCause};
 ghost use Rattle.fx_inputs.specs.Reads.{AsksAtAll};
 ghost use Rattle.fx_inputs.specs.Unread.{unread_at};
@@ -85,7 +85,7 @@ pub(crate) fn read_script_at<H: Host>(
 ) -> Result<Script, ScriptUnread>
     requires { before ≤ txn_limit }
     ensures read { IfOk result (λ script.
-        IfSome (H.view host.old).told (λ t. GoesOn t path.now before script)) }
+        IfSome (H.view host.old).told (λ t. HasMoreScripts t path.now before script)) }
     ensures few { IfOk result (λ script. before + length script ≤ txn_limit) }
     ensures shaped { IfOk result IsScript }
     ensures same { ReadsOnly (H.view host.old) (H.view host.new) }

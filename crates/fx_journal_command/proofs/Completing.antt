@@ -18,6 +18,7 @@ use Rattle.fx_inputs.proofs.Readings.{inputs_all_read}
 use Rattle.fx_words.specs.Job.{JournalJob}
 use Rattle.fx_run_command.specs.Rows.{run_command}
 use Rattle.fx_durable.specs.Disk.{File, DiskView}
+use Rattle.fx_durable.proofs.Choices.{unasked}
 use Rattle.fx_journal_command.specs.Rows.{JournalEnd, JournalRow, CannotLeave, CannotReach, CannotStart, HasBroken, HoldsBytes, IsProperJournal}
 
 abbrev Ends : Status → Type 0
@@ -74,4 +75,4 @@ journal_completes j t host host' sink sink' disk disk' st is proper none quiet c
 -- ---- words that want of memory keeps from being read
 
 pub journal_no_memory : (j : JournalJob) (host : HostView) (sink : SinkView) (disk : DiskView) → JournalRow j host host sink sink disk disk status.NoMemory
-journal_no_memory j host sink disk = (λ _. refl, inl (same host host sink (reads_none host), refl))
+journal_no_memory j host sink disk = (unasked j.journal disk, inl (same host host sink (reads_none host), refl))

@@ -38,7 +38,7 @@ use Rattle.fx_journaling.specs.Taken.{HasGrown}
 use Rattle.fx_journaling.proofs.Fronts.{written_is_front}
 use Rattle.fx_journaling.proofs.Taking.{grown_as, grown_more}
 use Rattle.fx_journaling.proofs.Ending.{not_disk}
-use Rattle.fx_journal_command.specs.Rows.{HasWrittenAll, IsStopped, IsStoppedAtDisk, IsLeft, IsLeftOrWhole, CannotLeave, CannotReach, CannotStart, HasEmptyJournal, IsUnbegun, HasBroken, IsBrokenOff, JournalEnd}
+use Rattle.fx_journal_command.specs.Rows.{HasWrittenAll, IsStoppedRun, IsStoppedAtDisk, IsLeft, IsLeftOrWhole, CannotLeave, CannotReach, CannotStart, HasEmptyJournal, IsUnbegun, HasBroken, IsBrokenOff, JournalEnd}
 use Rattle.fx_journal_command.specs.Stages.{StartCause, holds, fails, status_in, RecordCause}
 use Rattle.fx_journal_command.proofs.Keeping.{nothing_more, front_of, bytes_of, report_of, grown_by}
 
@@ -105,7 +105,7 @@ sink_there is = cc
 
 module _ (j : JournalJob) (base : BaseTree) (whole : IsWhole (get base.loaded)) (there : Bool) (host : HostView) (sink sink' : SinkView) (disk mid disk' : DiskView) (begins : IfSome host.told (λ t. HasBase t j.run.inputs base)) (free : IfSome host.told (λ t. IsReady t j.run.out there)) (empty : HasEmptyJournal j disk) (calm : mid.faults ≡ disk.faults) where
   module _ (stop : RecordFault) (broken : HasBrokenOff base (shells_of j.run) mid disk' sink sink' stop) where
-    abbrev stopped_at : (t : Tree) → HasBase t j.run.inputs base → IsReady t j.run.out there → IsStopped t t j.run sink.written sink'.written
+    abbrev stopped_at : (t : Tree) → HasBase t j.run.inputs base → IsReady t j.run.out there → IsStoppedRun t t j.run sink.written sink'.written
     stopped_at t is free = record {
       base = base;
       there = there;

@@ -24,6 +24,7 @@ use Rattle.fx_durable.specs.Disk.{Step, wrote, File, DiskView, MayLeave, GoesOn,
 use Rattle.fx_durable.specs.Journal.{JournalView}
 use Rattle.fx_durable.proofs.Moments.{goes_over, stays}
 use Rattle.fx_sched.specs.World as World
+use Rattle.fx_sched.proofs.Named.{names_none}
 use Rattle.fx_journaling.specs.declared.fault.RecordFault.TheVariants as fault
 use Rattle.fx_journaling.specs.Kept.{IfFile}
 use Rattle.fx_journaling.specs.Recorded.{IsStarted, KeepsRun, HasRecorded}
@@ -32,7 +33,7 @@ use Rattle.fx_journaling.specs.Written.{HasWritten, events_written, HasWrittenRe
 use Rattle.fx_journaling.proofs.Ending.{begun, paused}
 use Rattle.fx_journaling.proofs.Holding.{at_present, if_file_map}
 use Rattle.fx_journaling.proofs.Taking.{grown_none, grown_as, grown_more, count_of}
-use Rattle.fx_journal_command.specs.Rows.{HasEmptyJournal, KeepsJournal, HasNothing, IsKept}
+use Rattle.fx_journal_command.specs.Rows.{HasEmptyJournal, KeepsJournal, HasNothing, IsKeptRun}
 use Rattle.fx_command.specs.Saved.{SaveEnd, done, unmade, unsaved, unprinted}
 use Rattle.fx_journal_command.specs.Stages.{MayLeaveGate, RecordCause}
 
@@ -50,7 +51,7 @@ nothing_at j sink old new unstarted = record { unstarted = unstarted; unwritten 
 
 pub unbegun_keeps : (j : JournalJob) (host : HostView) (sink : SinkView) (disk : DiskView) → KeepsJournal j host sink sink disk disk
 unbegun_keeps j host sink disk =
-    told_untouched (λ old new. GoesOn old new × (HasNothing j sink sink old new ⊎ IsKept j host sink sink old new)) (λ file. (goes_none file, inl (nothing_at j sink file file (record { path = refl; done = inl (record { seen = refl; steps = refl }) })))) disk.told
+    told_untouched (λ old new. GoesOn old new × (HasNothing j sink sink old new ⊎ IsKeptRun j host sink sink old new)) (λ file. (goes_none file, inl (nothing_at j sink file file (record { path = refl; done = inl (record { seen = refl; steps = refl }) })))) disk.told
 
 goes_unstarted : (path : List ℕ) (old new : File) → IsUnstarted path old new → GoesOn old new
 goes_unstarted path old new unstarted = record { path = unstarted.path; steps = by unstarted.done }
@@ -65,7 +66,7 @@ told_unstarted path P each (Some file) o' stays = IsSomeAnd-weaker o' (IsUnstart
 
 pub unstarted_keeps : (j : JournalJob) (host : HostView) (sink : SinkView) (disk disk' : DiskView) → StaysUnstarted j.journal disk.told disk'.told → KeepsJournal j host sink sink disk disk'
 unstarted_keeps j host sink disk disk' stays =
-    told_unstarted j.journal (λ old new. GoesOn old new × (HasNothing j sink sink old new ⊎ IsKept j host sink sink old new)) (λ old new unstarted. (goes_unstarted j.journal old new unstarted, inl (nothing_at j sink old new unstarted))) disk.told disk'.told stays
+    told_unstarted j.journal (λ old new. GoesOn old new × (HasNothing j sink sink old new ⊎ IsKeptRun j host sink sink old new)) (λ old new unstarted. (goes_unstarted j.journal old new unstarted, inl (nothing_at j sink old new unstarted))) disk.told disk'.told stays
 
 -- ---- once it was started
 
@@ -77,7 +78,7 @@ module _ (j : JournalJob) (base : BaseTree) (host : HostView) (sink sink' : Sink
   abbrev pub Keeps : File → File → Type 0
   Keeps = KeepsRun base (shells_of j.run) (events_written base (shells_of j.run) machine bytes written) machine
 
-  kept_at : (old started new : File) → (old.path ≡ j.journal) × (0 ≡ length old.seen) → GoesOn old started → MayLeave started.steps (0 ∷ []) → Keeps started new → IsKept j host sink sink' old new
+  kept_at : (old started new : File) → (old.path ≡ j.journal) × (0 ≡ length old.seen) → GoesOn old started → MayLeave started.steps (0 ∷ []) → Keeps started new → IsKeptRun j host sink sink' old new
   kept_at old started new empty later gate keeps = record {
     base = base;
     begins = begins;
@@ -94,7 +95,7 @@ module _ (j : JournalJob) (base : BaseTree) (host : HostView) (sink sink' : Sink
   }
 
   abbrev pub Kept : File → File → Type 0
-  Kept old new = GoesOn old new × (HasNothing j sink sink' old new ⊎ IsKept j host sink sink' old new)
+  Kept old new = GoesOn old new × (HasNothing j sink sink' old new ⊎ IsKeptRun j host sink sink' old new)
 
   pub told_kept : (a b c : Option File) → IfSome a (λ file. (file.path ≡ j.journal) × (0 ≡ length file.seen)) → StaysTold a b → IfSome b (λ file. MayLeave file.steps (0 ∷ [])) → IfFile Keeps b c → IfFile Kept a c
   told_kept None b c empty told gate keeps = subst (λ o. IfFile Keeps o c) told keeps
@@ -110,7 +111,7 @@ broken_keeps j base host sink sink' disk mid disk' st begins empty continues gat
 -- a run that has not begun, as its schedule was not read
 pub unread : (base : BaseTree) (schedule : List ℕ) (disk : DiskView) (sink : SinkView) (journal : JournalView) → IsStarted journal disk → RecordCause base schedule disk disk sink sink status.NoMemory
 unread base schedule disk sink journal started =
-    record { stop = fault.NoMemory; is = refl; broken = paused base schedule disk disk sink sink 0 0 [] (World.began base) journal (begun base disk sink 0 0 journal started) stops }
+    record { stop = fault.NoMemory; is = refl; broken = paused base schedule disk disk sink sink 0 0 [] (World.began base) journal (begun base disk sink 0 0 journal started) stops (names_none base (resting base [])) }
 
 -- ---- a whole run
 
@@ -145,7 +146,7 @@ module _ (base : BaseTree) (schedule : List ℕ) (disk disk' : DiskView) (sink m
   text_same = λ i. report (had.traced.begun i) board.order (had.traced.conflicts i)
 
   abbrev pub report_of : (n : ℕ) → HasWrittenReport base schedule (resting base board.order) (bytes_of n)
-  report_of n = record { events = had.events; order = board.order; over = refl; run = had.traced.run; complete = had.traced.complete; turns = had.traced.turns; count = n; printed = refl }
+  report_of n = record { events = had.events; order = board.order; over = refl; run = had.traced.run; complete = had.traced.complete; turns = had.traced.turns; named = had.traced.named; count = n; printed = refl }
 
   pub grown_by : (n : ℕ) (sink' : SinkView) → HasGrown (take n text) mid sink' → HasGrown (bytes_of n) sink sink'
   grown_by n sink' grown = grown_more (lines had.events) (take n text_by_events) sink mid sink' had.printed (grown_as (take n text) (take n text_by_events) mid sink' (ap (λ l. take n l) text_same) grown)
@@ -161,9 +162,9 @@ finished_keeps j base there host host' sink mid sink' disk started disk' board r
 
 pub keeps_back : (j : JournalJob) (a b : HostView) (sink sink' : SinkView) (disk disk' : DiskView) → ReadsOnly a b → KeepsJournal j b sink sink' disk disk' → KeepsJournal j a sink sink' disk disk'
 keeps_back j a b sink sink' disk disk' reads keeps =
-    if_file_map (λ old new. GoesOn old new × (HasNothing j sink sink' old new ⊎ IsKept j b sink sink' old new)) (λ old new. GoesOn old new × (HasNothing j sink sink' old new ⊎ IsKept j a sink sink' old new))
+    if_file_map (λ old new. GoesOn old new × (HasNothing j sink sink' old new ⊎ IsKeptRun j b sink sink' old new)) (λ old new. GoesOn old new × (HasNothing j sink sink' old new ⊎ IsKeptRun j a sink sink' old new))
     (λ old new is. (is.0, back old new is.1)) disk.told disk'.told keeps
   where
-    back : (old new : File) → HasNothing j sink sink' old new ⊎ IsKept j b sink sink' old new → HasNothing j sink sink' old new ⊎ IsKept j a sink sink' old new
+    back : (old new : File) → HasNothing j sink sink' old new ⊎ IsKeptRun j b sink sink' old new → HasNothing j sink sink' old new ⊎ IsKeptRun j a sink sink' old new
     back old new (inl none) = inl none
     back old new (inr kept) = inr (record { base = kept.base; begins = some_back (λ t. HasBase t j.run.inputs kept.base) a b reads kept.begins; at_path = kept.at_path; empty = kept.empty; started = kept.started; later = kept.later; gate = kept.gate; machine = kept.machine; bytes = kept.bytes; written = kept.written; printed = kept.printed; keeps = kept.keeps })

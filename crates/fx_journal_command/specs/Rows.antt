@@ -17,13 +17,13 @@ use Rattle.fx_command.specs.Table.{IsDone, CannotSave}
 use Rattle.fx_inputs.specs.Inputs.{HasInputs, HasBase}
 use Rattle.fx_inputs.specs.Readings.{inputs_reading}
 use Rattle.fx_run_command.specs.Rows.{run_making, run_command, IsProperRun, RunAsks}
-use Rattle.fx_durable.specs.Disk.{File, DiskView, LeftSince, GoesOn, IsUnstarted, IsAsTold, TellsLength, FailsAt, TellsAt, ChoosesTold, moment}
+use Rattle.fx_durable.specs.Disk.{File, DiskView, LeftSince, GoesOn, IsUnstarted, IsAsTold, TellsLength, FailsAt, TellsAt, ChoosesFirst, moment}
 use Rattle.fx_journaling.specs.Kept.{IfFile}
 use Rattle.fx_journaling.specs.Recorded.{KeepsRun}
 use Rattle.fx_journaling.specs.Written.{HasWritten, events_written, HasWrittenEvents, HasWrittenReport, IsBeforeSettled, IsFrontOfOutput}
 
 -- some of a run's events are written, which is a front of the output of a whole run, and OUT is as before
-pub record IsStopped (t t' : Tree) (j : RunJob) (before after : Option (List ℕ)) : Type 0 where
+pub record IsStoppedRun (t t' : Tree) (j : RunJob) (before after : Option (List ℕ)) : Type 0 where
   pub base : BaseTree
   pub there : Bool
   pub begins : HasBase t j.inputs base
@@ -37,7 +37,7 @@ pub record IsStopped (t t' : Tree) (j : RunJob) (before after : Option (List ℕ
 
 -- the same, and what is written ends before the line of an attempt that was settled
 pub record IsStoppedAtDisk (t t' : Tree) (j : RunJob) (before after : Option (List ℕ)) : Type 0 where
-  pub stopped : IsStopped t t' j before after
+  pub stopped : IsStoppedRun t t' j before after
   pub settled : IsBeforeSettled stopped.base (shells_of j) stopped.events.events stopped.machine stopped.events.rest
 
 -- all events of a run are written, and a front of its report
@@ -71,7 +71,7 @@ pub record IsWholeLeft (t t' : Tree) (j : RunJob) (before after : Option (List �
 
 -- what is left of a run that ends before a byte of its report is written
 abbrev pub IsLeft : RunJob → Option (List ℕ) → Option (List ℕ) → Tree → Tree → Type 0
-IsLeft j before after t t' = IsStopped t t' j before after ⊎ IsPartlyLeft t t' j before after
+IsLeft j before after t t' = IsStoppedRun t t' j before after ⊎ IsPartlyLeft t t' j before after
 
 -- the same, or OUT is whole and a front of the report is written
 abbrev pub IsLeftOrWhole : RunJob → Option (List ℕ) → Option (List ℕ) → Tree → Tree → Type 0
@@ -132,13 +132,14 @@ JournalEnd j host host' sink sink' disk disk' status.WriteFault = IsUnbegun j ho
 JournalEnd j host host' sink sink' disk disk' status.NoMemory = HasNoMemory j host host' sink sink' disk disk'
 JournalEnd j host host' sink sink' disk disk' (status.BadJournal place) = ⊥
 
--- the table for `journal`: however it ends, no path but JOURNAL is chosen on a disk whose told file is there
+-- the table for `journal`: however it ends, a file is chosen before anything is asked of the disk, and no path but JOURNAL on a
+-- disk whose told file is there
 abbrev pub JournalRow : JournalJob → HostView → HostView → SinkView → SinkView → DiskView → DiskView → Status → Type 0
-JournalRow j host host' sink sink' disk disk' st = ChoosesTold j.journal disk disk' × JournalEnd j host host' sink sink' disk disk' st
+JournalRow j host host' sink sink' disk disk' st = ChoosesFirst j.journal disk disk' × JournalEnd j host host' sink sink' disk disk' st
 
 -- The file was at JOURNAL and empty. The journal was started in it at a moment of this call, and from then on keeps the order of
 -- the settled lines that were written, maybe with the entry of the event that comes next.
-pub record IsKept (j : JournalJob) (host : HostView) (sink sink' : SinkView) (old new : File) : Type 0 where
+pub record IsKeptRun (j : JournalJob) (host : HostView) (sink sink' : SinkView) (old new : File) : Type 0 where
   pub base : BaseTree
   pub begins : IfSome host.told (λ t. HasBase t j.run.inputs base)
   pub at_path : old.path ≡ j.journal
@@ -160,7 +161,7 @@ pub record HasNothing (j : JournalJob) (sink sink' : SinkView) (old new : File) 
 -- once it was started the journal keeps the order of what was written, whatever the status
 abbrev pub KeepsJournal : JournalJob → HostView → SinkView → SinkView → DiskView → DiskView → Type 0
 KeepsJournal j host sink sink' disk disk' =
-    IfFile (λ old new. GoesOn old new × (HasNothing j sink sink' old new ⊎ IsKept j host sink sink' old new)) disk.told disk'.told
+    IfFile (λ old new. GoesOn old new × (HasNothing j sink sink' old new ⊎ IsKeptRun j host sink sink' old new)) disk.told disk'.told
 
 -- nothing is asked of the host but at the texts, in the folder and in OUT
 abbrev pub JournalAsks : JournalJob → HostView → HostView → Type 0

@@ -1,5 +1,5 @@
 //! The command `journal`, stage by stage.
-ghost use Rattle.std.specs.Prelude.{◌≡◌, IfOk, IfErr, OnOk, OnErr, IfSome};
+ghost use Rattle.std.specs.Prelude.{◌≡◌, true, IfOk, IfErr, OnOk, OnErr, IfSome};
 ghost use Rattle.fx_outside.specs.Host.{WritesIn};
 ghost use Rattle.fx_folder.specs.Folder.{IsReady};
 ghost use Rattle.fx_spec.specs.Bases.{base_tree};
@@ -9,7 +9,7 @@ ghost use Rattle.fx_words.specs.JobOf.{asked, asked_journal, IsJob, IsJournalJob
 ghost use Rattle.fx_command.specs.Saved.{SaveEnd};
 ghost use Rattle.fx_command.specs.StatusOf.{status_of};
 ghost use Rattle.fx_inputs.specs.Inputs.{HasBase, HasEachScript};
-ghost use Rattle.fx_durable.specs.Disk.{Continues, StaysUnstarted, ChoosesTold, TellsLength};
+ghost use Rattle.fx_durable.specs.Disk.{Continues, StaysUnstarted, ChoosesTold, ChoosesFirst, TellsLength};
 ghost use Rattle.fx_journaling.specs.Recorded.{IsStarted, EndsRecorded};
 ghost use Rattle.fx_journal_command.specs.Rows.{JournalEnd, JournalRow, JournalAsks, KeepsJournal};
 ghost use Rattle.fx_journal_command.specs.Stages.{MayLeaveGate, StartCause, RecordCause, run_report};
@@ -33,6 +33,8 @@ fn start<D: Disk>(path: &HostText, disk: &mut D) -> Result<Journal, Status>
     ensures goes_on { Continues (D.view disk.old) (D.view disk.new) }
     ensures calm { OnOk result ((D.view disk.new).faults ≡ (D.view disk.old).faults) }
     ensures others { ChoosesTold path.now (D.view disk.old) (D.view disk.new) }
+    ensures early { (D.view disk.new).choice.early ≡ (D.view disk.old).choice.early }
+    ensures chosen { OnOk result ((D.view disk.new).choice.chosen ≡ true) }
     ensures cause { IfErr result (StartCause path.now (D.view disk.old) (D.view disk.new)) }
     ensures unstarted { OnErr result
         (StaysUnstarted path.now (D.view disk.old).told (D.view disk.new).told) }
@@ -112,7 +114,7 @@ fn keep<H: Host, S: Sink, D: Disk>(
     requires free { IfSome (H.view host.old).told (λ t. IsReady t (asked job.now.run).out there) }
     ensures end { JournalEnd (asked_journal job.now) (H.view host.old) (H.view host.new)
         (S.view out.old) (S.view out.new) (D.view disk.old) (D.view disk.new) (status_of result) }
-    ensures others { ChoosesTold job.now.journal.now (D.view disk.old) (D.view disk.new) }
+    ensures chooses { ChoosesFirst job.now.journal.now (D.view disk.old) (D.view disk.new) }
     ensures keeps { KeepsJournal (asked_journal job.now) (H.view host.old)
         (S.view out.old) (S.view out.new) (D.view disk.old) (D.view disk.new) }
     ensures fit { WritesIn job.now.run.out.now (H.view host.old) (H.view host.new) }

@@ -18,11 +18,13 @@ use Rattle.fx_durable.specs.Journal.{JournalView, RestsAt}
 use Rattle.fx_durable.proofs.Moments.{only_now}
 use Rattle.fx_report.specs.Events.{event_line, lines}
 use Rattle.fx_sched.specs.Running.{Running}
-use Rattle.fx_sched.specs.Taking.{a_start, HasEndedSomewhere}
+use Rattle.fx_sched.specs.Recorded.{Play}
+use Rattle.fx_sched.specs.Taking.{HadSome, a_start, HasEndedSomewhere}
 use Rattle.fx_sched.specs.declared.taking.Ended.{Ended}
 use Rattle.fx_sched.specs.declared.taking.Ended.TheVariants as end
 use Rattle.fx_sched.specs.Traced.{IsTraced}
 use Rattle.fx_sched.specs.World as World
+use Rattle.fx_sched.specs.Named.{NameConflicts}
 use Rattle.fx_sched.proofs.Runs.{run_same}
 use Rattle.fx_sched.proofs.Worlds.{run_more}
 use Rattle.fx_journaling.specs.declared.fault.RecordFault.{RecordFault}
@@ -32,6 +34,7 @@ use Rattle.fx_journaling.specs.Written.{IsPartOfLine, IsBeforeSettled}
 use Rattle.fx_journaling.specs.Taken.{Beginning, beginning, HasTaken, IsUnkept, IsUntold, HasRefused}
 use Rattle.fx_journaling.specs.Recorded.{IsStarted, IsNextOrder, KeepsRun, HasRecorded, HasBrokenOff, fault_in}
 use Rattle.fx_journaling.proofs.Holding.{holds_leaves, if_file_map, spells_rested}
+use Rattle.fx_journaling.proofs.Naming.{names_front}
 use Rattle.fx_journaling.proofs.Taking.{lines_more, grown_none, grown_as}
 
 -- ---- runs
@@ -60,15 +63,16 @@ module _ (base : BaseTree) (schedule : List ℕ) (disk disk' : DiskView) (sink s
 
   -- a run that stops between two events
   module _ (events : List Event) (running : Running) (journal : JournalView) (taken : HasTaken began events running journal disk' sink') where
-    pub paused : BeginsTurns base [] schedule events → HasBrokenOff base schedule disk disk' sink sink' fault.NoMemory
-    paused begins = record {
+    pub paused : BeginsTurns base [] schedule events → NameConflicts base (resting base []) events → HasBrokenOff base schedule disk disk' sink sink' fault.NoMemory
+    paused begins named = record {
       machine = running.machine;
       bytes = lines events;
-      written = record { events = events; run = taken.run; turns = ([], subst (BeginsTurns base [] schedule) (sym (append-nil events)) begins); rest = []; printed = sym (append-nil (lines events)); behind = inl refl };
+      written = record { events = events; run = taken.run; turns = ([], subst (BeginsTurns base [] schedule) (sym (append-nil events)) begins); named = named; rest = []; printed = sym (append-nil (lines events)); behind = inl refl };
       printed = taken.printed;
       keeps = keeps events running.machine running.machine.order (inl refl) (inl refl) (held_leaves running.machine.order running.machine.order taken.held.told);
       cause = tt;
       others = taken.held.others;
+      asks = taken.held.asks;
       calm = λ _. taken.held.calm;
       at_disk = λ is. absurd (not_disk is);
     }
@@ -83,11 +87,12 @@ module _ (base : BaseTree) (schedule : List ℕ) (disk disk' : DiskView) (sink s
           later = taken.later;
           calm = taken.held.calm;
           others = taken.held.others;
+          asks = taken.held.asks;
           keeps = subst (λ m. IfFile (KeepsRun base schedule events m) disk.told disk'.told) same (keeps events running.machine running.machine.order (inl refl) (inl refl) (held_leaves running.machine.order running.machine.order taken.held.told));
         }
 
   -- a run of which an event is refused
-  module _ (stop : RecordFault) (events : List Event) (e : Event) (running : Running) (refused : HasRefused began stop events e running disk' sink') (begins : BeginsTurns base [] schedule (events ++ e ∷ [])) where
+  module _ (stop : RecordFault) (events : List Event) (e : Event) (running : Running) (refused : HasRefused began stop events e running disk' sink') (begins : BeginsTurns base [] schedule (events ++ e ∷ [])) (named : NameConflicts base (resting base []) (events ++ e ∷ [])) where
     part : List ℕ
     part = take refused.count (event_line e)
 
@@ -96,11 +101,12 @@ module _ (base : BaseTree) (schedule : List ℕ) (disk disk' : DiskView) (sink s
     cut calm leaves behind at_disk = record {
       machine = refused.before;
       bytes = lines events ++ take refused.count (event_line e);
-      written = record { events = events; run = refused.run; turns = (e ∷ [], begins); rest = take refused.count (event_line e); printed = refl; behind = behind };
+      written = record { events = events; run = refused.run; turns = (e ∷ [], begins); named = names_front base (resting base []) events (e ∷ []) named; rest = take refused.count (event_line e); printed = refl; behind = behind };
       printed = refused.printed;
       keeps = keeps events refused.before running.machine.order (step_more base refused.before e running.machine refused.step) (inr (record { next = e; after = running.machine; step = refused.step; turns = begins; is = refl })) leaves;
       cause = refused.cause;
       others = refused.others;
+      asks = refused.asks;
       calm = calm;
       at_disk = at_disk;
     }
@@ -130,6 +136,7 @@ module _ (base : BaseTree) (schedule : List ℕ) (disk disk' : DiskView) (sink s
             events = events ++ e ∷ [];
             run = run_more base (resting base []) events refused.before e running.machine refused.run refused.step;
             turns = ([], subst (BeginsTurns base [] schedule) (sym (append-nil (events ++ e ∷ []))) begins);
+            named = named;
             rest = [];
             printed = sym (append-nil (lines (events ++ e ∷ [])));
             behind = inl refl;
@@ -138,6 +145,7 @@ module _ (base : BaseTree) (schedule : List ℕ) (disk disk' : DiskView) (sink s
           keeps = keeps (events ++ e ∷ []) running.machine running.machine.order (inl refl) (inl refl) (held_leaves running.machine.order running.machine.order held.holds);
           cause = refused.cause;
           others = refused.others;
+          asks = refused.asks;
           calm = λ _. held.calm;
           at_disk = λ is. absurd (held.not_at_disk is);
         }
@@ -146,7 +154,7 @@ module _ (base : BaseTree) (schedule : List ℕ) (disk disk' : DiskView) (sink s
     untold held =
         ⊎_elim
         (λ (short : refused.count < length (event_line e)).
-        cut (λ _. held.calm) (held_leaves refused.before.order running.machine.order held.holds) (inr (record { next = e; after = running.machine; step = refused.step; turns = begins; count = refused.count; short = short; is = refl })) (λ is. absurd (held.not_at_disk is)))
+        cut (λ _. held.calm) (held_leaves refused.before.order running.machine.order held.holds) (inr (record { next = e; after = running.machine; step = refused.step; named = named events e [] refused.before refl refused.run; turns = begins; count = refused.count; short = short; is = refl })) (λ is. absurd (held.not_at_disk is)))
         (λ (all : length (event_line e) ≤ refused.count). whole all held) (cases_lt refused.count (length (event_line e)))
 
     pub broken : HasBrokenOff base schedule disk disk' sink sink' stop
@@ -176,12 +184,15 @@ pub begun : (base : BaseTree) (disk : DiskView) (sink : SinkView) (disk_name sin
 begun base disk sink disk_name sink_name journal started = record {
   base = refl;
   run = refl;
-  held = record { count = started.count; good = started.good; calm = refl; others = refl; told = held_none base disk.told started.rests };
+  held = record { count = started.count; good = started.good; calm = refl; others = refl; asks = λ _. refl; told = held_none base disk.told started.rests };
   printed = grown_none sink;
   later = omega arith;
 }
 
 -- ---- a run that ends before its end
+
+named_so_far : (base : BaseTree) (schedule : List ℕ) (p : Play) → HadSome (a_start base) schedule p → NameConflicts base (resting base []) p.events
+named_so_far base schedule p had = subst (λ b. NameConflicts b (resting b []) p.events) had.base had.recording.named
 
 module _ {T : Type 0} (took : T → List Event → Running → Type 0) (refused : T → RecordFault → List Event → Event → Running → Type 0) (base : BaseTree) (schedule : List ℕ) (disk disk' : DiskView) (sink sink' : SinkView) (disk_name sink_name : ℕ) (journal : JournalView) (taker : T)
     (taken : (events : List Event) (running : Running) → took taker events running → HasTaken (beginning base disk sink disk_name sink_name) events running journal disk' sink')
@@ -189,5 +200,7 @@ module _ {T : Type 0} (took : T → List Event → Running → Type 0) (refused 
   pub ended : (why : Ended RecordFault) → HasEndedSomewhere took refused (a_start base) schedule taker why → HasBrokenOff base schedule disk disk' sink sink' (fault_in why)
   ended end.NoMemory (world, had) =
       paused base schedule disk disk' sink sink' disk_name sink_name had.play.events had.play.world journal (taken had.play.events had.play.world had.taken) (subst (BeginsTurns base [] schedule) (sym had.had.events) had.had.begins)
+      (named_so_far base schedule had.play had.had)
   ended (end.Stopped stop) (world, had) =
       broken base schedule disk disk' sink sink' disk_name sink_name stop had.events had.event world (lost stop had.events had.event world had.why) (subst (BeginsTurns base [] schedule) (sym had.had.events) had.had.begins)
+      (named_so_far base schedule (record { events = had.events ++ had.event ∷ []; world = world }) had.had)

@@ -3,6 +3,8 @@ use Rattle.std.proofs.Common.{◌≡◌, ◌⊎◌, inl, inr, ℕ, zero, suc, Li
 use Rattle.std.specs.FinMap.{get}
 use Rattle.std.proofs.lemmas.List.{append-nil, append_assoc}
 use Rattle.std.proofs.lemmas.List.Concat.{flat_map-append}
+use Rattle.fx_sched.specs.Named.{NameConflicts}
+use Rattle.fx_sched.proofs.Named.{names_more}
 use Rattle.fx_sched.proofs.Worlds.{run_more}
 use Rattle.fx_base.proofs.Lists.{same_heads}
 use Rattle.fx_store.specs.Whole.{IsWhole}
@@ -11,15 +13,12 @@ use Rattle.fx_machine.specs.declared.event.Event.{Event}
 use Rattle.fx_machine.specs.Machine.{Machine, Run, shell_of, resting}
 use Rattle.fx_machine.specs.Tried.{retries_of}
 use Rattle.fx_machine.specs.Turns.{BeginsTurns, leaves_out, goes, next_round, stops}
-use Rattle.fx_progress.specs.Ends.{HasEnd}
-use Rattle.fx_progress.proofs.Ending.{comes_to_end}
-use Rattle.fx_progress.proofs.Going.{goes_on}
-use Rattle.fx_progress.proofs.Tasked.{looks_at_paths}
 use Rattle.fx_progress.proofs.Turning.{runs_on}
 use Rattle.fx_report.specs.Entries.{report}
 use Rattle.fx_report.specs.Events.{event_line, lines}
 use Rattle.fx_journaling.specs.Laws.{WrittenIsFront}
 use Rattle.fx_journaling.specs.Written.{IsPartOfLine, HasWrittenEvents, HasWrittenReport, IsFrontOfOutput}
+use Rattle.fx_journaling.proofs.Renaming.{HasNamedEnd, named_end}
 use Rattle.fx_journaling.proofs.Taking.{lines_more}
 
 front_and_rest : {X : Type 0} (n : ℕ) (xs : List X) → take n xs ++ drop n xs ≡ xs
@@ -42,9 +41,9 @@ begins_with base before [] all (e ∷ events) later same (next_round shell has b
 begins_with base before turns [] (e ∷ events) later same stops = absurd (cc)
 
 -- the run that comes to its end behind these events
-module _ (base : BaseTree) (schedule : List ℕ) (whole : IsWhole (get base.loaded)) (events : List Event) (m : Machine) (run : Run base (resting base []) events m) (begins : BeginsTurns base [] schedule events) where
-  end : HasEnd base schedule events m
-  end = comes_to_end (goes_on looks_at_paths) base schedule events m whole run begins
+module _ (base : BaseTree) (schedule : List ℕ) (whole : IsWhole (get base.loaded)) (events : List Event) (m : Machine) (run : Run base (resting base []) events m) (begins : BeginsTurns base [] schedule events) (named : NameConflicts base (resting base []) events) where
+  end : HasNamedEnd base schedule events m
+  end = named_end base schedule events m whole run begins named
 
   front : (bytes rest : List ℕ) → bytes ++ rest ≡ lines events → IsFrontOfOutput base schedule bytes
   front bytes rest is = record {
@@ -53,6 +52,7 @@ module _ (base : BaseTree) (schedule : List ℕ) (whole : IsWhole (get base.load
     run = runs_on base (resting base []) events m end.later (resting base end.order) run end.run;
     complete = end.complete;
     turns = end.turns;
+    named = end.named;
     rest = rest ++ (lines end.later ++ report base end.order (retries_of base (events ++ end.later)));
     output = sym (append_assoc bytes rest (lines end.later ++ report base end.order (retries_of base (events ++ end.later))))
         ∙ ap (λ l. l ++ (lines end.later ++ report base end.order (retries_of base (events ++ end.later)))) is
@@ -67,9 +67,9 @@ events_front base schedule m bytes whole w = by w.behind
     begins = begins_with base [] schedule (w.events ++ w.turns.0) w.events w.turns.0 refl w.turns.1
 
     by : (w.rest ≡ []) ⊎ IsPartOfLine base schedule w.events m w.rest → IsFrontOfOutput base schedule bytes
-    by (inl none) = front base schedule whole w.events m w.run begins bytes [] (append-nil bytes ∙ w.printed ∙ ap (λ l. lines w.events ++ l) none ∙ append-nil (lines w.events))
+    by (inl none) = front base schedule whole w.events m w.run begins w.named bytes [] (append-nil bytes ∙ w.printed ∙ ap (λ l. lines w.events ++ l) none ∙ append-nil (lines w.events))
     by (inr part) =
-        front base schedule whole (w.events ++ part.next ∷ []) part.after (run_more base (resting base []) w.events m part.next part.after w.run part.step) part.turns bytes (drop part.count (event_line part.next))
+        front base schedule whole (w.events ++ part.next ∷ []) part.after (run_more base (resting base []) w.events m part.next part.after w.run part.step) part.turns (names_more base (resting base []) w.events m part.next w.run w.named part.named) bytes (drop part.count (event_line part.next))
         (ap (λ l. l ++ drop part.count (event_line part.next)) (w.printed ∙ ap (λ l. lines w.events ++ l) part.is)
         ∙ append_assoc (lines w.events) (take part.count (event_line part.next)) (drop part.count (event_line part.next))
         ∙ ap (λ l. lines w.events ++ l) (front_and_rest part.count (event_line part.next))
@@ -82,6 +82,7 @@ report_front base schedule m bytes w = record {
   run = subst (λ m. Run base (resting base []) w.events m) w.over w.run;
   complete = w.complete;
   turns = w.turns;
+  named = w.named;
   rest = drop w.count (report base w.order (retries_of base w.events));
   output = ap (λ l. l ++ drop w.count (report base w.order (retries_of base w.events))) w.printed
       ∙ append_assoc (lines w.events) (take w.count (report base w.order (retries_of base w.events))) (drop w.count (report base w.order (retries_of base w.events)))

@@ -11,7 +11,7 @@ use Rattle.fx_durable.specs.Disk.{Step, File, MayLeave, LeftSince, GoesOn, Leave
 use Rattle.fx_durable.specs.Journal.{RestsAt, Spells, IsBeforeOrAfter}
 use Rattle.fx_durable.proofs.Moments.{since_before, goes_over}
 use Rattle.fx_durable.proofs.Records.{spells_closed}
-use Rattle.fx_journaling.specs.Kept.{SpellsLegal, SpellsFront, LeavesEither, HoldsOrder, IfFile, MayAdd, order_seen}
+use Rattle.fx_journaling.specs.Kept.{SpellsLegal, SpellsFront, LeavesEither, HoldsOrder, IfFile, MayJoinOrder, order_seen}
 
 -- what a crash leaves now it leaves since any moment
 pub at_present : (start : ℕ) (steps : List Step) (image : List ℕ) → MayLeave steps image → LeftSince start steps image
@@ -31,7 +31,7 @@ rests_as_seen count order file rests room image =
     let same : order_seen file ≡ order = ap (λ (o : Option (List Turn)). unwrap_or o []) (spells_rested count order file file.seen rests room image) in
     subst (λ o. RestsAt count o file) (sym same) rests
 
-module _ (base : BaseTree) (order : List Turn) (turn : Turn) (add : MayAdd base order turn) where
+module _ (base : BaseTree) (order : List Turn) (turn : Turn) (add : MayJoinOrder base order turn) where
   abbrev pub longer : List Turn
   longer = order ++ turn ∷ []
 
@@ -76,7 +76,7 @@ pub if_file_map : (P Q : File → File → Type 0) → ((old new : File) → P o
 if_file_map P Q f None told' p = p
 if_file_map P Q f (Some file) told' p = IsSomeAnd-weaker told' (P file) (Q file) (f file) p
 
-module _ (base : BaseTree) (order : List Turn) (turn : Turn) (add : MayAdd base order turn) (count : ℕ) (counts : count ≡ length order) where
+module _ (base : BaseTree) (order : List Turn) (turn : Turn) (add : MayJoinOrder base order turn) (count : ℕ) (counts : count ≡ length order) where
   abbrev pub Either : Option File → Option File → Type 0
   Either old new = IfSome old (λ file. (o : List Turn) → RestsAt count o file → IsSomeAnd new (λ later. LeavesOnly file later (IsBeforeOrAfter o turn)))
 

@@ -28,8 +28,8 @@ use Rattle.fx_sched.specs.World.{Leads}
 use Rattle.fx_sched.proofs.Worlds.{run_more}
 use Rattle.fx_journaling.specs.declared.fault.RecordFault.{RecordFault}
 use Rattle.fx_journaling.specs.declared.fault.RecordFault.TheVariants as fault
-use Rattle.fx_journaling.specs.Kept.{IfFile, HoldsOrder, LeavesEither, IsHeld, IsLost, MayAdd}
-use Rattle.fx_journaling.specs.Taken.{Beginning, Extends, HasGrown, FaultCause, TellCause, HasTaken, HasSettled, HasRefused}
+use Rattle.fx_journaling.specs.Kept.{IfFile, HoldsOrder, LeavesEither, IsHeld, IsLost, MayJoinOrder}
+use Rattle.fx_journaling.specs.Taken.{Beginning, Extends, HasGrown, FaultCause, TellCause, HasTaken, IsSettledEvent, HasRefused}
 
 -- ---- the entry of an event
 
@@ -43,7 +43,7 @@ module _ (before after : Running) (shell entry : ℕ) (reached : IsReached befor
   grown : after.machine.order ≡ before.machine.order ++ next ∷ []
   grown = ap (λ (m : Machine). m.order) leads.step.after
 
-  may_add : MayAdd before.base before.machine.order next
+  may_add : MayJoinOrder before.base before.machine.order next
   may_add =
       let sound = sound_step before.base before.machine (event.Settled shell entry) after.machine (reached_sound before.base before.machine reached) leads.step in
       let fits : length after.machine.order ≤ sum_by length before.base.plan = order_fits before.base after.machine.order sound.legal sound.shells in
@@ -58,7 +58,7 @@ module _ (before after : Running) (shell entry : ℕ) (reached : IsReached befor
   last_entry turn stands =
       let here : slice_get after.machine.order entry ≡ Some next = ap (λ o. slice_get o entry) grown ∙ ap (slice_get (before.machine.order ++ next ∷ [])) leads.step.now ∙ at_middle before.machine.order [] next in
       let same : next ≡ turn = same_Some next turn (sym here ∙ stands) in
-      (grown ∙ ap (λ (t : Turn). before.machine.order ++ t ∷ []) same, subst (MayAdd before.base before.machine.order) same may_add)
+      (grown ∙ ap (λ (t : Turn). before.machine.order ++ t ∷ []) same, subst (MayJoinOrder before.base before.machine.order) same may_add)
 
   pub extended : (o : Option Pair) → (o ≡ None) ↔ (length after.machine.order ≤ entry) → IfSome o (λ pair. slice_get after.machine.order entry ≡ Some (turn_of pair)) → Extends before.base before.machine.order (option_map turn_of o) after.machine.order
   extended None none stands = absurd (has_entry (none.0 refl))
@@ -119,7 +119,7 @@ module _ (began : Beginning) (events : List Event) (e : Event) (before after : R
   }
 
   -- its entry was not kept
-  pub refused_keep : (disk' : DiskView) → HasSettled e → IsLost before.base before.machine.order after.machine.order began.disk disk' → HasRefused began fault.DiskFailed events e after disk' sink
+  pub refused_keep : (disk' : DiskView) → IsSettledEvent e → IsLost before.base before.machine.order after.machine.order began.disk disk' → HasRefused began fault.DiskFailed events e after disk' sink
   refused_keep disk' settled lost = record {
     before = before.machine;
     run = taken.run;
@@ -128,6 +128,7 @@ module _ (began : Beginning) (events : List Event) (e : Event) (before after : R
     printed = grown_as (lines events) (lines events ++ []) began.sink sink (sym (append-nil (lines events))) taken.printed;
     told = inl (record { at_disk = refl; settled = settled; none = refl; leaves = subst (λ b. IfFile (LeavesEither b before.machine.order after.machine.order) began.disk.told disk'.told) taken.base lost.told });
     others = lost.others;
+    asks = lost.asks;
     cause = lost.rose;
   }
 
@@ -152,6 +153,7 @@ module _ (began : Beginning) (events : List Event) (e : Event) (before after : R
           holds = subst (λ b. IfFile (HoldsOrder b after.machine.order) began.disk.told disk'.told) taken.base held.told;
         });
         others = held.others;
+        asks = held.asks;
         cause = cause_from stop disk' sink' cause;
       }
 

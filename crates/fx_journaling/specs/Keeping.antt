@@ -10,18 +10,18 @@ use Rattle.fx_durable.specs.Journal.{JournalView}
 use Rattle.fx_durable.specs.declared.disk.DiskFailed.{DiskFailed}
 use Rattle.fx_sched.specs.Running.{Running}
 use Rattle.fx_sched.specs.World.{Leads}
-use Rattle.fx_journaling.specs.Kept.{IsHeld, IsLost, MayAdd}
+use Rattle.fx_journaling.specs.Kept.{IsHeld, IsLost, MayJoinOrder}
 use Rattle.fx_journaling.specs.Taken.{Extends}
 
 -- each order that the journal held, and that may have this entry next, it holds with the entry, if it was appended
 abbrev pub HoldsEntry : Turn → JournalView → JournalView → DiskView → DiskView → Result (Unit {0}) DiskFailed → Type 0
 HoldsEntry turn journal journal' disk disk' result =
-    (base : BaseTree) (order : List Turn) (began : DiskView) → IsHeld base order began journal disk → MayAdd base order turn → OnOk result (IsHeld base (order ++ turn ∷ []) began journal' disk')
+    (base : BaseTree) (order : List Turn) (began : DiskView) → IsHeld base order began journal disk → MayJoinOrder base order turn → OnOk result (IsHeld base (order ++ turn ∷ []) began journal' disk')
 
 -- such an order has lost the entry, if the append failed
 abbrev pub LosesEntry : Turn → JournalView → DiskView → DiskView → Result (Unit {0}) DiskFailed → Type 0
 LosesEntry turn journal disk disk' result =
-    (base : BaseTree) (order : List Turn) (began : DiskView) → IsHeld base order began journal disk → MayAdd base order turn → OnErr result (IsLost base order (order ++ turn ∷ []) began disk')
+    (base : BaseTree) (order : List Turn) (began : DiskView) → IsHeld base order began journal disk → MayJoinOrder base order turn → OnErr result (IsLost base order (order ++ turn ∷ []) began disk')
 
 -- the event, which has led a run that was reached to where it is, has added this entry to its order, if any
 abbrev pub AddsEntry : Event → Running → Option Turn → Type 0

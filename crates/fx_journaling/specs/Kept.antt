@@ -5,8 +5,8 @@ use Rattle.fx_base.specs.Causes.{Rose}
 use Rattle.fx_base.specs.Limits.{txn_limit}
 use Rattle.fx_spec.specs.Plans.{Turn}
 use Rattle.fx_spec.specs.Order.{BaseTree, IsLegal}
-use Rattle.fx_durable.specs.Disk.{File, DiskView, MayLeave, LeftSince, GoesOn, moment}
-use Rattle.fx_durable.specs.Journal.{JournalView, RestsAt, Spells, spelled}
+use Rattle.fx_durable.specs.Disk.{File, DiskView, MayLeave, LeftSince, GoesOn, AsksChosen, moment}
+use Rattle.fx_durable.specs.Journal.{JournalView, RestsAt, Spells, spelled_order}
 
 -- the image spells this order, which is legal
 pub record SpellsLegal (base : BaseTree) (order : List Turn) (image : List ℕ) : Type 0 where
@@ -49,28 +49,30 @@ abbrev pub IfFile : (File → File → Type 0) → Option File → Option File �
 IfFile P None told' = told' ≡ None
 IfFile P (Some file) told' = IsSomeAnd told' (P file)
 
--- the journal on the disk has this order, and no append has failed, nor the disk; no path was chosen
+-- the journal on the disk has this order, and no append has failed, nor the disk; no path was chosen, and no call was early
 pub record IsHeld (base : BaseTree) (order : List Turn) (began : DiskView) (journal : JournalView) (disk : DiskView) : Type 0 where
   pub count : journal.count ≡ length order
   pub good : journal.good ≡ true
   pub calm : disk.faults ≡ began.faults
   pub others : disk.others ≡ began.others
+  pub asks : AsksChosen began disk
   pub told : IfFile (HoldsOrder base order) began.told disk.told
 
--- an append to this order, to make the longer one of it, has failed; no path was chosen
+-- an append to this order, to make the longer one of it, has failed; no path was chosen, and no call was early
 pub record IsLost (base : BaseTree) (order longer : List Turn) (began disk : DiskView) : Type 0 where
   pub rose : Rose began.faults disk.faults
   pub others : disk.others ≡ began.others
+  pub asks : AsksChosen began disk
   pub told : IfFile (LeavesEither base order longer) began.told disk.told
 
 -- the order may have this entry next: it is legal with it, and the journal has room
-pub record MayAdd (base : BaseTree) (order : List Turn) (turn : Turn) : Type 0 where
+pub record MayJoinOrder (base : BaseTree) (order : List Turn) (turn : Turn) : Type 0 where
   pub legal : IsLegal base (order ++ turn ∷ [])
   pub room : length order < txn_limit
 
 -- the order that the bytes of a file spell
 abbrev pub order_seen : File → List Turn
-order_seen file = unwrap_or (spelled file.seen) []
+order_seen file = unwrap_or (spelled_order file.seen) []
 
 -- the journal rests with the order that its bytes spell, as long as no append has failed
 abbrev pub RestsWhileGood : JournalView → DiskView → Type 0

@@ -8,7 +8,7 @@ use Rattle.fx_machine.specs.declared.retry.Retry.{Retry}
 use Rattle.fx_machine.specs.Machine.{Machine, Step, resting}
 use Rattle.fx_machine.specs.Turns.{BeginsTurns}
 use Rattle.fx_board.specs.Log.{Log}
-use Rattle.fx_durable.specs.Disk.{File, DiskView}
+use Rattle.fx_durable.specs.Disk.{File, DiskView, AsksChosen}
 use Rattle.fx_durable.specs.Journal.{JournalView, RestsAt}
 use Rattle.fx_report.specs.Events.{lines}
 use Rattle.fx_sched.specs.Traced.{IsTraced}
@@ -41,7 +41,8 @@ pub record IsStarted (journal : JournalView) (disk : DiskView) : Type 0 where
   pub good : journal.good ≡ true
   pub rests : IfSome disk.told (RestsAt 0 [])
 
--- the run has come to its end, and the lines of all its events are written; the disk has not failed, and no path was chosen
+-- the run has come to its end, and the lines of all its events are written; the disk has not failed, no path was chosen, and
+-- no call was early
 pub record HasRecorded (base : BaseTree) (schedule : List ℕ) (disk disk' : DiskView) (sink sink' : SinkView) (board : Log) (retries : List Retry) : Type 0 where
   pub events : List Event
   pub traced : IsTraced base schedule (record { board = board; retries = retries; events = events })
@@ -49,6 +50,7 @@ pub record HasRecorded (base : BaseTree) (schedule : List ℕ) (disk disk' : Dis
   pub later : sink.faults ≤ sink'.faults
   pub calm : disk'.faults ≡ disk.faults
   pub others : disk'.others ≡ disk.others
+  pub asks : AsksChosen disk disk'
   pub keeps : IfFile (KeepsRun base schedule events (resting base board.order)) disk.told disk'.told
 
 -- the run has come to its end so
@@ -56,7 +58,7 @@ abbrev pub EndsRecorded : BaseTree → List ℕ → DiskView → DiskView → Si
 EndsRecorded base schedule disk disk' sink sink' run = HasRecorded base schedule disk disk' sink sink' run.board run.retries
 
 -- The run has ended before, and the journal keeps the order of the settled lines that are written, maybe with the next entry. At a disk fault all events up
--- to the attempt that was settled are written, and no more; elsewhere the disk has not failed. No path was chosen.
+-- to the attempt that was settled are written, and no more; elsewhere the disk has not failed. No path was chosen, and no call was early.
 pub record HasBrokenOff (base : BaseTree) (schedule : List ℕ) (disk disk' : DiskView) (sink sink' : SinkView) (stop : RecordFault) : Type 0 where
   pub machine : Machine
   pub bytes : List ℕ
@@ -65,6 +67,7 @@ pub record HasBrokenOff (base : BaseTree) (schedule : List ℕ) (disk disk' : Di
   pub keeps : IfFile (KeepsRun base schedule written.events machine) disk.told disk'.told
   pub cause : FaultCause stop disk disk' sink sink'
   pub others : disk'.others ≡ disk.others
+  pub asks : AsksChosen disk disk'
   pub calm : (stop ≡ fault.DiskFailed → ⊥) → disk'.faults ≡ disk.faults
   pub at_disk : stop ≡ fault.DiskFailed → IsBeforeSettled base schedule written.events machine written.rest
 

@@ -9,13 +9,13 @@ use Rattle.fx_spec.specs.Order.{BaseTree}
 use Rattle.fx_machine.specs.declared.event.Event.{Event}
 use Rattle.fx_machine.specs.declared.event.Event.TheVariants as event
 use Rattle.fx_machine.specs.Machine.{Machine, Step, Run, resting}
-use Rattle.fx_durable.specs.Disk.{DiskView}
+use Rattle.fx_durable.specs.Disk.{DiskView, AsksChosen, unchosen}
 use Rattle.fx_durable.specs.Journal.{JournalView}
 use Rattle.fx_report.specs.Events.{event_line, lines}
 use Rattle.fx_sched.specs.Running.{Running}
 use Rattle.fx_journaling.specs.declared.fault.RecordFault.{RecordFault}
 use Rattle.fx_journaling.specs.declared.fault.RecordFault.TheVariants as fault
-use Rattle.fx_journaling.specs.Kept.{IfFile, HoldsOrder, LeavesEither, IsHeld, MayAdd}
+use Rattle.fx_journaling.specs.Kept.{IfFile, HoldsOrder, LeavesEither, IsHeld, MayJoinOrder}
 
 -- where a recording begins: the base of its run, and the disk and the sink, as they are then and by the names of their loans
 pub record Beginning : Type 0 where
@@ -32,7 +32,7 @@ beginning base disk sink disk_name sink_name = record { base = base; disk = disk
 abbrev pub no_beginning : Beginning
 no_beginning = record {
   base = record { description = file; plan = []; loaded = empty };
-  disk = record { told = None; faults = 0; others = 0 };
+  disk = record { told = None; faults = 0; others = 0; choice = unchosen };
   sink = record { written = None; faults = 0 };
   disk_name = 0;
   sink_name = 0;
@@ -41,7 +41,7 @@ no_beginning = record {
 -- the order after an event: with its entry, if it has one
 abbrev pub Extends : BaseTree → List Turn → Option Turn → List Turn → Type 0
 Extends base order None order' = order' ≡ order
-Extends base order (Some turn) order' = (order' ≡ order ++ turn ∷ []) × MayAdd base order turn
+Extends base order (Some turn) order' = (order' ≡ order ++ turn ∷ []) × MayJoinOrder base order turn
 
 -- a sink that tells what was written to it has these bytes more
 abbrev pub HasGrown : List ℕ → SinkView → SinkView → Type 0
@@ -62,13 +62,13 @@ pub record HasTaken (began : Beginning) (events : List Event) (running : Running
   pub later : began.sink.faults ≤ sink.faults
 
 -- the event has settled an attempt
-abbrev pub HasSettled : Event → Type 0
-HasSettled e = (shell : ℕ) × (entry : ℕ) × (e ≡ event.Settled shell entry)
+abbrev pub IsSettledEvent : Event → Type 0
+IsSettledEvent e = (shell : ℕ) × (entry : ℕ) × (e ≡ event.Settled shell entry)
 
 -- the disk failed, so that the entry of an attempt that was settled is not surely kept, and no byte of its line is written
 pub record IsUnkept (began : Beginning) (stop : RecordFault) (e : Event) (order longer : List Turn) (count : ℕ) (disk : DiskView) : Type 0 where
   pub at_disk : stop ≡ fault.DiskFailed
-  pub settled : HasSettled e
+  pub settled : IsSettledEvent e
   pub none : count ≡ 0
   pub leaves : IfFile (LeavesEither began.base order longer) began.disk.told disk.told
 
@@ -78,7 +78,8 @@ pub record IsUntold (began : Beginning) (stop : RecordFault) (order : List Turn)
   pub calm : disk.faults ≡ began.disk.faults
   pub holds : IfFile (HoldsOrder began.base order) began.disk.told disk.told
 
--- one event more has come, of whose line so many bytes are written: none, where its entry is not surely kept; no path was chosen
+-- one event more has come, of whose line so many bytes are written: none, where its entry is not surely kept; no path was
+-- chosen, and no call was early
 pub record HasRefused (began : Beginning) (stop : RecordFault) (events : List Event) (event : Event) (running : Running) (disk : DiskView) (sink : SinkView) : Type 0 where
   pub before : Machine
   pub run : Run began.base (resting began.base []) events before
@@ -87,6 +88,7 @@ pub record HasRefused (began : Beginning) (stop : RecordFault) (events : List Ev
   pub printed : HasGrown (lines events ++ take count (event_line event)) began.sink sink
   pub told : IsUnkept began stop event before.order running.machine.order count disk ⊎ IsUntold began stop running.machine.order disk
   pub others : disk.others ≡ began.disk.others
+  pub asks : AsksChosen began.disk disk
   pub cause : FaultCause stop began.disk disk began.sink sink
 
 -- what keeps a line from being written

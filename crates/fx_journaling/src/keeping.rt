@@ -4,7 +4,7 @@ ghost use Rattle.fx_board.specs.Board.{IsLog};
 ghost use Rattle.fx_durable.specs.Journal.{turn_of};
 ghost use Rattle.fx_journaling.specs.Keeping.{HoldsEntry, LosesEntry, AddsEntry, HoldsEvent, LosesEvent};
 ghost use Rattle.fx_journaling.specs.Kept.{RestsWhileGood};
-ghost use Rattle.fx_journaling.specs.Taken.{HasSettled};
+ghost use Rattle.fx_journaling.specs.Taken.{IsSettledEvent};
 
 use fx_base::TXN_LIMIT;
 use fx_board::{Board, Event, Pair};
@@ -45,7 +45,7 @@ fn pair_at(board: &Board, entry: u64) -> Option<Pair>
 /// The pair of an event's entry, if an attempt was settled.
 fn settled_pair(world: &World, event: &Event) -> Option<Pair>
     ensures adds { AddsEntry event.now world.now (option_map turn_of result) }
-    ensures settled { IfSome result (λ _. HasSettled event.now) }
+    ensures settled { IfSome result (λ _. IsSettledEvent event.now) }
 {
     match event {
         Event::Settled { shell: _, entry } => pair_at(world.board(), *entry),
@@ -75,7 +75,7 @@ pub(crate) fn keep<D: Disk>(
         journal.old journal.new (D.view disk.old) (D.view disk.new) result }
     ensures lost { LosesEvent event.now world.now
         journal.old (D.view disk.old) (D.view disk.new) result }
-    ensures settled { OnErr result (HasSettled event.now) }
+    ensures settled { OnErr result (IsSettledEvent event.now) }
 {
     match settled_pair(world, event) {
         None => Ok(()),

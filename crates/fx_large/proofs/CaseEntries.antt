@@ -21,14 +21,14 @@ use Rattle.fx_table.specs.Places.{rest_of}
 use Rattle.fx_folder.specs.Written.{HasEntries}
 use Rattle.fx_folder.proofs.Fronts.{some_of}
 use Rattle.fx_table.proofs.Descents.{find_append}
-use Rattle.fx_large.specs.Case.{Case, Named, texts, scripts_from, text_entry, case_entry, case_entry_or, text_places, is_listed_before, is_node_before, is_before_in_case, IsWritten, IsPartOfCase, IsPartlyWritten}
+use Rattle.fx_large.specs.Case.{Case, NamedText, case_texts, scripts_from, text_entry, case_entry, case_entry_or, text_places, is_listed_before, is_node_before, is_before_in_case, IsCaseWritten, IsPartOfCase, IsPartlyWritten}
 use Rattle.fx_large.specs.Wrote.{Mapped, file_of, text_nodes}
 
 abbrev pub inner : List ℕ
 inner = codes "in"
 
 -- a text is found by its name
-found_text : (named : List Named) (name : List ℕ) (names : Parts) → text_entry named name names ≡ host_entry (find path_cmp (name ∷ names) (map file_of named))
+found_text : (named : List NamedText) (name : List ℕ) (names : Parts) → text_entry named name names ≡ host_entry (find path_cmp (name ∷ names) (map file_of named))
 found_text [] name [] = refl
 found_text [] name (b ∷ bs) = refl
 found_text (n ∷ named) name [] =
@@ -57,7 +57,7 @@ text_stands c (name ∷ names) e is = elim (cases_Bool (bytes_eq name inner)) [
       let both : None ≡ Some e = sym none ∙ is in
       cc
   | inr apart ↦
-      ap (λ b. cond b (folder_entry c.nodes names) (text_entry (texts c) name names)) apart ∙ found_text (texts c) name names ∙ is
+      ap (λ b. cond b (folder_entry c.nodes names) (text_entry (case_texts c) name names)) apart ∙ found_text (case_texts c) name names ∙ is
 ]
 
 -- ---- the order of the texts
@@ -65,7 +65,7 @@ text_stands c (name ∷ names) e is = elim (cases_Bool (bytes_eq name inner)) [
 abbrev pub places : List Mapped → List Parts
 places nodes = map (λ (m : Mapped). m.0) nodes
 
-places_of : (named : List Named) → places (map file_of named) ≡ map (λ (n : Named). n.0 ∷ []) named
+places_of : (named : List NamedText) → places (map file_of named) ≡ map (λ (n : NamedText). n.0 ∷ []) named
 places_of [] = refl
 places_of (n ∷ named) = ap (λ l. (n.0 ∷ []) ∷ l) (places_of named)
 
@@ -105,7 +105,7 @@ text_is c (name ∷ names) y found = elim (cases_Bool (bytes_eq name inner)) [
       let both : None ≡ Some y = sym none ∙ found in
       cc
   | inr apart ↦
-      ap (λ b. cond b (folder_entry c.nodes names) (text_entry (texts c) name names)) apart ∙ found_text (texts c) name names ∙ ap host_entry found
+      ap (λ b. cond b (folder_entry c.nodes names) (text_entry (case_texts c) name names)) apart ∙ found_text (case_texts c) name names ∙ ap host_entry found
 ]
 
 -- no text stands in the folder of the filestore
@@ -131,7 +131,7 @@ IsTextAmong c done place whole = (y : Node) × (find path_cmp place done ≡ Som
 listed_text : (c : Case) (done left : List Mapped) (before path : Parts) (whole : Entry) → text_nodes c ≡ done ++ left → IsReached done left before path → is_listed_before (text_places c) before path ≡ true → case_entry c before ≡ Some whole → IsTextAmong c done before whole
 listed_text c done left before path whole split reached listed stands =
     let among : is_listed_before (places (done ++ left)) before path ≡ true =
-    ap (λ l. is_listed_before (places l) before path) (sym split) ∙ ap (λ l. is_listed_before ([] ∷ l) before path) (places_of (texts c)) ∙ listed in
+    ap (λ l. is_listed_before (places l) before path) (sym split) ∙ ap (λ l. is_listed_before ([] ∷ l) before path) (places_of (case_texts c)) ∙ listed in
     let found = listed_done done left before path reached among in
     let text : find path_cmp before (text_nodes c) ≡ Some found.0 = ap (find path_cmp before) split ∙ find_append before done left ∙ ap (λ o. option_or o (find path_cmp before left)) found.1 in
     (found.0, found.1, text, sym (text_is c before found.0 text) ∙ stands)
@@ -197,7 +197,7 @@ module _ (c : Case) (t u v : Tree) (at : Parts) (has : HasEntries t u at (text_n
   into : (names : Parts) → below ++ names ≡ at ++ inner ∷ names
   into names = append_assoc at (inner ∷ []) names
 
-  pub case_written : IsSaved u v below c.nodes → IsWritten t v at c
+  pub case_written : IsSaved u v below c.nodes → IsCaseWritten t v at c
   case_written saved q = go (rest_of at q) refl
     where
       beside : (q : Parts) → rest_of below q ≡ None → get v q ≡ get u q
@@ -208,10 +208,10 @@ module _ (c : Case) (t u v : Tree) (at : Parts) (has : HasEntries t u at (text_n
       inside (name ∷ names) = elim (cases_Bool (bytes_eq name inner)) [
         | inl same ↦
             ap (λ n. get v (at ++ n ∷ names)) (named_in name same) ∙ saved (at ++ inner ∷ names) ∙ ap (entry_or (get u (at ++ inner ∷ names)) c.nodes) (rest_behind at (inner ∷ []) (inner ∷ names))
-            ∙ sym (ap (λ b. cond b (folder_entry c.nodes names) (text_entry (texts c) name names)) same)
+            ∙ sym (ap (λ b. cond b (folder_entry c.nodes names) (text_entry (case_texts c) name names)) same)
         | inr apart ↦
             beside (at ++ name ∷ names) (rest_behind at (inner ∷ []) (name ∷ names) ∙ named_apart name names apart) ∙ has.inside (name ∷ names)
-            ∙ sym (ap (λ b. cond b (folder_entry c.nodes names) (text_entry (texts c) name names)) apart ∙ found_text (texts c) name names)
+            ∙ sym (ap (λ b. cond b (folder_entry c.nodes names) (text_entry (case_texts c) name names)) apart ∙ found_text (case_texts c) name names)
       ]
 
       go : (o : Option Parts) → rest_of at q ≡ o → get v q ≡ case_entry_or (get t q) c o

@@ -10,7 +10,7 @@ use Rattle.std.proofs.lemmas.List.{map-append, length-take-le}
 use Rattle.std.proofs.lemmas.Option.{slice_get_within}
 use Rattle.fx_store.specs.declared.node.Node.TheVariants.{File}
 use Rattle.fx_store.specs.Names.{IsName, is_name, path_cmp}
-use Rattle.fx_gen.specs.Scripts.{scripts, scripts_to as generated_to}
+use Rattle.fx_gen.specs.Scripts.{generated_scripts, scripts_to as generated_to}
 use Rattle.fx_gen.proofs.Placing.{each_below}
 use Rattle.fx_large.specs.Case.{Case, scripts_from, script_name}
 use Rattle.fx_large.specs.Wrote.{Mapped, file_of, text_nodes, scripts_to}
@@ -75,7 +75,7 @@ script_fresh c i small there =
     ∙ no_earlier i 0 (take i c.scripts) (omega (arith, length-take-le i c.scripts there)) (omega (arith, small))
 
 -- a generated case has eight scripts
-pub eight_scripts : (number : ℕ) → length (scripts number) ≡ 8
+pub eight_scripts : (number : ℕ) → length (generated_scripts number) ≡ 8
 unfolding generated_to
 eight_scripts number = refl
 

@@ -14,7 +14,7 @@ use Rattle.fx_spec.specs.SpecTree.{SpecTree}
 use Rattle.fx_spec.specs.WellShaped.{IsScript, IsTransaction, IsBlock}
 use Rattle.fx_gen.specs.Notes.{nodes}
 use Rattle.fx_gen.specs.Scripts as gen
-use Rattle.fx_gen.specs.Scripts.{scripts, scripts_to}
+use Rattle.fx_gen.specs.Scripts.{generated_scripts, scripts_to}
 use Rattle.fx_gen.proofs.Ranges.{map_more}
 use Rattle.fx_gen_laws.specs.Trees.{description_text, description_tree, script_tree}
 use Rattle.fx_gen_laws.proofs.Described.{description_stands}
@@ -39,33 +39,33 @@ blocks_of [] all = All-nil (λ t. IsBlock [] (block t))
 blocks_of (t ∷ txns) all =
     All-cons (λ t. IsBlock [] (block t)) t txns (All-head IsTransaction t txns all).shapes (blocks_of txns (All-tail IsTransaction t txns all))
 
-pub scripted : (text : List ℕ) (number k before : ℕ) → k < 8 → before ≤ 1400 → text ≡ gen.script_of number k → Scripts text before (script_tree number k)
+pub scripted : (text : List ℕ) (number k before : ℕ) → k < 8 → before ≤ 1400 → text ≡ gen.generated_script number k → Scripts text before (script_tree number k)
 scripted text number k before small few is =
     let stands = scripts_stand number k small in
     subst (λ t. Scripts t before (script_tree number k)) (sym is)
     (record { read = stands.stands; shapes = blocks_of (script_tree number k) stands.shapes; few = omega (arith, few, stands.count) })
 
-pub unscripted_is : (text : List ℕ) (number k before : ℕ) (fault : ScriptFault) → k < 8 → before ≤ 1400 → text ≡ gen.script_of number k → IsUnscripted text before fault → fault ≡ script.NoMemory
+pub unscripted_is : (text : List ℕ) (number k before : ℕ) (fault : ScriptFault) → k < 8 → before ≤ 1400 → text ≡ gen.generated_script number k → IsUnscripted text before fault → fault ≡ script.NoMemory
 unscripted_is text number k before (script.Refused cause) small few is refused = absurd (refused.none (script_tree number k) (scripted text number k before small few is))
 unscripted_is text number k before script.NoMemory small few is refused = refl
 
 -- the text of a number's script
-pub text_at : (texts : List (List ℕ)) (number k : ℕ) → texts ≡ scripts number → k < 8 → slice_get texts k ≡ Some (gen.script_of number k)
+pub text_at : (texts : List (List ℕ)) (number k : ℕ) → texts ≡ generated_scripts number → k < 8 → slice_get texts k ≡ Some (gen.generated_script number k)
 unfolding scripts_to
 text_at texts number k is small =
     let there : k < length (range_with_len 0 8) = omega (arith, small, length-range_with_len 0 8) in
     let zeroth : 0 + k ≡ k = omega arith in
-    ap (λ ts. slice_get ts k) is ∙ slice_get-map (gen.script_of number) (range_with_len 0 8) k
-    ∙ ap (option_map (gen.script_of number)) (slice_get-get_or (range_with_len 0 8) k 0 there ∙ ap Some (get_or-range_with_len 0 8 k 0 small ∙ zeroth))
+    ap (λ ts. slice_get ts k) is ∙ slice_get-map (gen.generated_script number) (range_with_len 0 8) k
+    ∙ ap (option_map (gen.generated_script number)) (slice_get-get_or (range_with_len 0 8) k 0 there ∙ ap Some (get_or-range_with_len 0 8 k 0 small ∙ zeroth))
 
 pub text_there : (texts : List (List ℕ)) (k : ℕ) → AreGenerated texts → k < 8 → slice_get texts k ≡ None → ⊥
-text_there texts k generated small none = let both : None ≡ Some (gen.script_of generated.0 k) = sym none ∙ text_at texts generated.0 k generated.1 small in cc
+text_there texts k generated small none = let both : None ≡ Some (gen.generated_script generated.0 k) = sym none ∙ text_at texts generated.0 k generated.1 small in cc
 
 same_some : (x y : List ℕ) → Some x ≡ Some y → x ≡ y
 same_some x y e = cc
 
-pub text_is : (texts : List (List ℕ)) (one : List ℕ) (k number : ℕ) → texts ≡ scripts number → k < 8 → slice_get texts k ≡ Some one → one ≡ gen.script_of number k
-text_is texts one k number is small at = same_some one (gen.script_of number k) (sym at ∙ text_at texts number k is small)
+pub text_is : (texts : List (List ℕ)) (one : List ℕ) (k number : ℕ) → texts ≡ generated_scripts number → k < 8 → slice_get texts k ≡ Some one → one ≡ gen.generated_script number k
+text_is texts one k number is small at = same_some one (gen.generated_script number k) (sym at ∙ text_at texts number k is small)
 
 -- ---- the plan, script by script
 
@@ -86,7 +86,7 @@ begins texts plan none = subst (λ p. IsReading texts 0 p) (sym none) (record {
 })
 
 -- each script has 200 transactions
-pub script_count : (texts : List (List ℕ)) (k : ℕ) (text : List ℕ) (script : List (List CommandTree)) → AreGenerated texts → k < 8 → slice_get texts k ≡ Some text → ((number k : ℕ) → k < 8 → text ≡ gen.script_of number k → script ≡ script_tree number k) → length script ≡ 200
+pub script_count : (texts : List (List ℕ)) (k : ℕ) (text : List ℕ) (script : List (List CommandTree)) → AreGenerated texts → k < 8 → slice_get texts k ≡ Some text → ((number k : ℕ) → k < 8 → text ≡ gen.generated_script number k → script ≡ script_tree number k) → length script ≡ 200
 script_count texts k text script generated small at is =
     let same = is generated.0 k small (text_is texts text k generated.0 generated.1 small at) in
     ap (λ s. length s) same ∙ (scripts_stand generated.0 k small).count
@@ -98,7 +98,7 @@ one_fits plan script k was count sum small long is = record {
   few = omega (arith, long, sum, small, sum_by_push length plan script);
 }
 
-pub goes_on : (texts : List (List ℕ)) (k : ℕ) (plan plan' : List (List (List CommandTree))) (text : List ℕ) (script : List (List CommandTree)) → AreGenerated texts → k < 8 → slice_get texts k ≡ Some text → IsReading texts k plan → plan' ≡ plan ++ script ∷ [] → IsScript script → ((number k : ℕ) → k < 8 → text ≡ gen.script_of number k → script ≡ script_tree number k) → IsReading texts (k + 1) plan'
+pub goes_on : (texts : List (List ℕ)) (k : ℕ) (plan plan' : List (List (List CommandTree))) (text : List ℕ) (script : List (List CommandTree)) → AreGenerated texts → k < 8 → slice_get texts k ≡ Some text → IsReading texts k plan → plan' ≡ plan ++ script ∷ [] → IsScript script → ((number k : ℕ) → k < 8 → text ≡ gen.generated_script number k → script ≡ script_tree number k) → IsReading texts (k + 1) plan'
 goes_on texts k plan plan' text script generated small at was pushed shaped is =
     let long = script_count texts k text script generated small at is in
     subst (λ p. IsReading texts (k + 1) p) (sym pushed) (record {

@@ -18,7 +18,7 @@ use Rattle.fx_outside.proofs.Trees.{parts_total}
 use Rattle.fx_store.specs.declared.node.Node.{Node}
 use Rattle.fx_store.specs.Filestore.{Table, IsTable, node_with, place_at}
 use Rattle.fx_store.specs.Names.{path_cmp}
-use Rattle.fx_large.specs.Summary.{nodes_in}
+use Rattle.fx_large.specs.Summary.{node_count}
 
 abbrev Path : Type 0
 Path = List (List ℕ)
@@ -50,7 +50,7 @@ distinct_keys (e ∷ es) h =
     IsDistinct-cons same e.0 (keys_of es) (above_keys e.0 es (first (below_all path_cmp e.0 es) _ h)) (distinct_keys es (second (below_all path_cmp e.0 es) _ h))
 
 -- each node has one place, so that the places with a node are as many as the nodes
-pub counted_places : (t : Table) → IsTable t → count_by (λ p. is_some (get t.nodes p)) t.places ≡ nodes_in t.nodes
+pub counted_places : (t : Table) → IsTable t → count_by (λ p. is_some (get t.nodes p)) t.places ≡ node_count t.nodes
 counted_places t is =
     let keys = keys_of (entries t.nodes) in
     let shared : IsIntersection same t.places keys keys = λ q. in_both (is_member same t.places q) (is_member same keys q) (λ key. is.placed q (sym (there t is q) ∙ key)) in

@@ -29,7 +29,7 @@ use Rattle.fx_table.proofs.Rests.{no_rest}
 use Rattle.fx_folder.proofs.Fronts.{begins, adds, from_old, has_it, free_place}
 use Rattle.fx_folder.proofs.Texts.{parts_below, fit_below, fit_alone, lets_inner}
 use Rattle.fx_folder.proofs.Writes.{told_then, told_open, told_next}
-use Rattle.fx_large.specs.Case.{Case, script_name, case_entry, is_listed_before, IsWritten, IsPartOfCase, IsPartlyWritten}
+use Rattle.fx_large.specs.Case.{Case, script_name, case_entry, is_listed_before, IsCaseWritten, IsPartOfCase, IsPartlyWritten}
 use Rattle.fx_large.specs.Wrote.{Mapped, text_nodes, scripts_to, IsBegun, WroteTexts}
 use Rattle.fx_large.proofs.CaseEntries.{inner, no_text, places, IsTextAmong, text_stands, text_before, first_before, texts_ordered, case_written, case_part}
 use Rattle.fx_large.proofs.Naming.{spec_named, inner_named, script_named, script_fresh, one_more, all_taken, texts_split}
@@ -277,10 +277,10 @@ inner_above (Some t) (Some u) path c has lacks =
     let both : true ≡ false = sym there ∙ lacks in
     cc
 
-pub case_all : {E : Type 0} (r : Result (Unit {0}) E) (told told1 told2 told3 : Option Tree) (path : List ℕ) (there : Bool) (c : Case) → IfTold told told1 (λ t u. u ≡ with_folder t (parts path) there) → IfTold told1 told2 (λ t t'. HasEntries t t' (parts path) (text_nodes c)) → OnOk r (IfTold told2 told3 (λ t t'. IsSaved t t' (parts (path_below path inner)) c.nodes)) → OnOk r (IfTold told told3 (λ t t'. IsWritten t t' (parts path) c))
+pub case_all : {E : Type 0} (r : Result (Unit {0}) E) (told told1 told2 told3 : Option Tree) (path : List ℕ) (there : Bool) (c : Case) → IfTold told told1 (λ t u. u ≡ with_folder t (parts path) there) → IfTold told1 told2 (λ t t'. HasEntries t t' (parts path) (text_nodes c)) → OnOk r (IfTold told2 told3 (λ t t'. IsSaved t t' (parts (path_below path inner)) c.nodes)) → OnOk r (IfTold told told3 (λ t t'. IsCaseWritten t t' (parts path) c))
 case_all (Err e) told told1 told2 told3 path there c made wrote saved = tt
 case_all (Ok done) told told1 told2 told3 path there c made wrote saved =
-    told_then told told2 told3 (λ t t'. HasEntries t t' (parts path) (text_nodes c)) (λ t t'. IsSaved t t' (parts (path_below path inner)) c.nodes) (λ t t'. IsWritten t t' (parts path) c) (filled told told1 told2 path there c made wrote) saved
+    told_then told told2 told3 (λ t t'. HasEntries t t' (parts path) (text_nodes c)) (λ t t'. IsSaved t t' (parts (path_below path inner)) c.nodes) (λ t t'. IsCaseWritten t t' (parts path) c) (filled told told1 told2 path there c made wrote) saved
     (λ t u v at has all. case_written c t u v (parts path) has (subst (λ p. IsSaved u v p c.nodes) (parts_below path inner inner_named) all))
 
 pub case_stopped : {E : Type 0} (r : Result (Unit {0}) E) (told told1 told2 told3 : Option Tree) (path : List ℕ) (there : Bool) (c : Case) → IfTold told told1 (λ t u. u ≡ with_folder t (parts path) there) → IfTold told1 told2 (λ t t'. HasEntries t t' (parts path) (text_nodes c)) → OnErr r (IfTold told2 told3 (λ t t'. IsPartlySaved t t' (parts (path_below path inner)) c.nodes)) → OnErr r (IfTold told told3 (λ t t'. IsPartlyWritten t t' (parts path) c))

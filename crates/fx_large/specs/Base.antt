@@ -6,7 +6,7 @@ use Rattle.fx_spec.specs.Plans.{IsPlan}
 use Rattle.fx_spec.specs.Order.{BaseTree, IsComplete}
 use Rattle.fx_board.specs.Log.{Log}
 use Rattle.fx_gen.specs.Notes.{nodes}
-use Rattle.fx_gen.specs.Scripts.{scripts}
+use Rattle.fx_gen.specs.Scripts.{generated_scripts}
 use Rattle.fx_gen_laws.specs.Trees.{description_tree, script_tree}
 
 -- the first n scripts
@@ -18,11 +18,11 @@ generated_base number = record { description = description_tree; plan = plan_to 
 
 -- these are the texts of some number's scripts
 abbrev pub AreGenerated : List (List ℕ) → Type 0
-AreGenerated texts = (number : ℕ) × (texts ≡ scripts number)
+AreGenerated texts = (number : ℕ) × (texts ≡ generated_scripts number)
 
 -- whatever the number of which these are the scripts, the plan is its plan
 abbrev pub IsPlanOf : List (List ℕ) → ℕ → List (List (List CommandTree)) → Type 0
-IsPlanOf texts n plan = (number : ℕ) → texts ≡ scripts number → plan ≡ plan_to number n
+IsPlanOf texts n plan = (number : ℕ) → texts ≡ generated_scripts number → plan ≡ plan_to number n
 
 -- the scripts before number k are in the plan
 pub record IsReading (texts : List (List ℕ)) (k : ℕ) (plan : List (List (List CommandTree))) : Type 0 where

@@ -11,7 +11,7 @@ use Rattle.fx_folder.specs.Deep.{folder_entry}
 use Rattle.fx_folder.specs.Folder.{IsFrontOf, is_written_before}
 use Rattle.fx_table.specs.Places.{rest_of}
 use Rattle.fx_gen.specs.Notes.{nodes}
-use Rattle.fx_gen.specs.Scripts.{description, scripts}
+use Rattle.fx_gen.specs.Scripts.{description, generated_scripts}
 use Rattle.fx_gen.specs.declared.case.Generated.{Generated}
 
 -- the text of a description, those of the scripts, and a filestore
@@ -22,48 +22,48 @@ pub record Case : Type 0 where
 
 -- the case of a number
 abbrev pub case_of : ℕ → Case
-case_of number = record { description = description; scripts = scripts number; nodes = nodes number }
+case_of number = record { description = description; scripts = generated_scripts number; nodes = nodes number }
 
 abbrev pub case_in : Generated → Case
 case_in g = record { description = g.description; scripts = g.scripts; nodes = g.store.nodes }
 
 -- a text with its name
-abbrev pub Named : Type 0
-Named = List ℕ × List ℕ
+abbrev pub NamedText : Type 0
+NamedText = List ℕ × List ℕ
 
 -- a script is named by its number
 abbrev pub script_name : ℕ → List ℕ
 script_name k = codes "s" ++ decimal k
 
-abbrev pub scripts_from : ℕ → List (List ℕ) → List Named
+abbrev pub scripts_from : ℕ → List (List ℕ) → List NamedText
 scripts_from k [] = []
-scripts_from k (text ∷ texts) = (script_name k, text) ∷ scripts_from (k + 1) texts
+scripts_from k (text ∷ case_texts) = (script_name k, text) ∷ scripts_from (k + 1) case_texts
 
 -- the description is `spec`, and the scripts are `s0`, `s1` and so on
-abbrev pub texts : Case → List Named
-texts c = (codes "spec", c.description) ∷ scripts_from 0 c.scripts
+abbrev pub case_texts : Case → List NamedText
+case_texts c = (codes "spec", c.description) ∷ scripts_from 0 c.scripts
 
 -- a text is a file, with nothing below
-abbrev pub text_entry : List Named → List ℕ → Parts → Option Entry
+abbrev pub text_entry : List NamedText → List ℕ → Parts → Option Entry
 text_entry named name [] = option_map file (find name_cmp name named)
 text_entry named name (below ∷ names) = None
 
 -- what stands in the folder of a case: the folder of the filestore as `in`, and the texts
 abbrev pub case_entry : Case → Parts → Option Entry
 case_entry c [] = Some folder
-case_entry c (name ∷ names) = cond (bytes_eq name (codes "in")) (folder_entry c.nodes names) (text_entry (texts c) name names)
+case_entry c (name ∷ names) = cond (bytes_eq name (codes "in")) (folder_entry c.nodes names) (text_entry (case_texts c) name names)
 
 abbrev pub case_entry_or : Option Entry → Case → Option Parts → Option Entry
 case_entry_or outside c None = outside
 case_entry_or outside c (Some path) = case_entry c path
 
 -- the new tree has the folder of the case at these parts, and is the old one elsewhere
-abbrev pub IsWritten : Tree → Tree → Parts → Case → Type 0
-IsWritten tree tree' at c = (q : Parts) → get tree' q ≡ case_entry_or (get tree q) c (rest_of at q)
+abbrev pub IsCaseWritten : Tree → Tree → Parts → Case → Type 0
+IsCaseWritten tree tree' at c = (q : Parts) → get tree' q ≡ case_entry_or (get tree q) c (rest_of at q)
 
 -- the folder itself and the texts, as they are listed
 abbrev pub text_places : Case → List Parts
-text_places c = [] ∷ map (λ (named : Named). named.0 ∷ []) (texts c)
+text_places c = [] ∷ map (λ (named : NamedText). named.0 ∷ []) (case_texts c)
 
 -- one place is listed, and the other later or not at all
 abbrev pub is_listed_before : List Parts → Parts → Parts → Bool

@@ -67,13 +67,13 @@ abbrev pub logged_in : Nodes → ℕ
 logged_in nodes = logged_to nodes 16
 
 -- the root counts as a node
-abbrev pub nodes_in : Nodes → ℕ
-nodes_in nodes = length (entries nodes)
+abbrev pub node_count : Nodes → ℕ
+node_count nodes = length (entries nodes)
 
 -- the five lines, by the numbers of transactions and of those done, and the filestore
 unfoldable pub lines : ℕ → ℕ → Nodes → List ℕ
 lines transactions done nodes =
-    codes "transactions " ++ decimal transactions ++ codes "\ndone " ++ decimal done ++ codes "\ncounted " ++ signed_decimal (counted_in nodes) ++ codes "\nlogged " ++ decimal (logged_in nodes) ++ codes "\nnodes " ++ decimal (nodes_in nodes) ++ codes "\n"
+    codes "transactions " ++ decimal transactions ++ codes "\ndone " ++ decimal done ++ codes "\ncounted " ++ signed_decimal (counted_in nodes) ++ codes "\nlogged " ++ decimal (logged_in nodes) ++ codes "\nnodes " ++ decimal (node_count nodes) ++ codes "\n"
 
 -- the summary of an order
 abbrev pub summary : BaseTree → List Turn → List ℕ

@@ -8,17 +8,17 @@ use Rattle.fx_outside.specs.Path.{Parts}
 use Rattle.fx_outside.specs.Tree.{Tree}
 use Rattle.fx_folder.specs.Places.{host_entry}
 use Rattle.fx_folder.specs.Written.{WrotePart, HasEntries}
-use Rattle.fx_large.specs.Case.{Case, Named, texts}
+use Rattle.fx_large.specs.Case.{Case, NamedText, case_texts}
 
 abbrev pub Mapped : Type 0
 Mapped = List (List ℕ) × Node
 
-abbrev pub file_of : Named → Mapped
+abbrev pub file_of : NamedText → Mapped
 file_of named = (named.0 ∷ [], File named.1 false)
 
 -- the folder itself and the texts, each at its path below the folder
 abbrev pub text_nodes : Case → List Mapped
-text_nodes c = ([], Dir []) ∷ map file_of (texts c)
+text_nodes c = ([], Dir []) ∷ map file_of (case_texts c)
 
 -- the case without its scripts from number i on
 abbrev pub scripts_to : ℕ → Case → Case

@@ -1,7 +1,7 @@
 //! The base of a number.
 ghost use Rattle.std.specs.Prelude.{◌≡◌, ◌+◌, ◌≤◌, ◌<◌, [], ℕ, IfOk, OnOk};
 ghost use Rattle.fx_spec.specs.Bases.{base_tree};
-ghost use Rattle.fx_gen.specs.Scripts.{description, script_of};
+ghost use Rattle.fx_gen.specs.Scripts.{description, generated_script};
 ghost use Rattle.fx_gen_laws.specs.Trees.{description_tree, script_tree};
 ghost use Rattle.fx_large.specs.Base.{generated_base, AreGenerated, IsPlanOf, IsReading};
 ghost use Rattle.fx_spec.specs.WellShaped.{IsScript};
@@ -40,9 +40,9 @@ fn no_memory(fault: DescriptionFault) -> NoMemory
 
 /// The script for which a generated text stands.
 fn script(alloc: Global, text: &[u8], before: u32) -> Result<Script, NoMemory>
-    requires text { (number : ℕ) × (k : ℕ) × (k < 8) × (text.now ≡ script_of number k) }
+    requires text { (number : ℕ) × (k : ℕ) × (k < 8) × (text.now ≡ generated_script number k) }
     requires few { before ≤ 1400 }
-    ensures script { IfOk result (λ script. (number k : ℕ) → k < 8 → text.now ≡ script_of number k
+    ensures script { IfOk result (λ script. (number k : ℕ) → k < 8 → text.now ≡ generated_script number k
         → script ≡ script_tree number k) }
     ensures shaped { IfOk result IsScript }
 {

@@ -3,7 +3,7 @@ ghost use Rattle.std.specs.Prelude.{◌≡◌, ◌<◌, IfOk};
 ghost use Rattle.std.specs.FinMap.{get};
 ghost use Rattle.fx_expr.specs.Eval.{integer_in, read_integer};
 ghost use Rattle.fx_expr.specs.Views.{expr_tree, tree_of};
-ghost use Rattle.fx_large.specs.Summary.{int_of, integer_or_zero, counted_at, logged_at, counted_in, logged_in, nodes_in};
+ghost use Rattle.fx_large.specs.Summary.{int_of, integer_or_zero, counted_at, logged_at, counted_in, logged_in, node_count};
 
 use fx_base::{NoMemory, Steps};
 use fx_expr::{Env, EvalFault, Expr, Text, UnOp, Value, eval};
@@ -101,7 +101,7 @@ pub(crate) fn logged(alloc: Global, store: &Filestore) -> Result<u128, NoMemory>
 
 /// The number of nodes.
 pub(crate) fn node_count(store: &Filestore) -> u64
-    ensures { result ≡ nodes_in store.now.nodes }
+    ensures { result ≡ node_count store.now.nodes }
 {
     let mut count = 0;
     for i in 0..store.places() {

@@ -1,7 +1,7 @@
 //! The lines of a summary.
 ghost use Rattle.std.specs.Prelude.{◌≡◌, ◌++◌, codes, IfOk, OnOk};
 ghost use Rattle.std.specs.Fmt.{decimal, signed_decimal};
-ghost use Rattle.fx_large.specs.Summary.{counted_in, logged_in, nodes_in, lines, summary};
+ghost use Rattle.fx_large.specs.Summary.{counted_in, logged_in, node_count, lines, summary};
 
 use crate::counting::{counted, logged, node_count};
 use crate::entries::done;
@@ -44,7 +44,7 @@ fn add_counted(out: &mut Vec<u8>, store: &Filestore) -> Result<(), NoMemory>
 fn add_logged(out: &mut Vec<u8>, store: &Filestore) -> Result<(), NoMemory>
     ensures { OnOk result (out.new.items
         ≡ out.old.items ++ codes "\nlogged " ++ decimal (logged_in store.now.nodes)
-        ++ codes "\nnodes " ++ decimal (nodes_in store.now.nodes)) }
+        ++ codes "\nnodes " ++ decimal (node_count store.now.nodes)) }
 {
     let alloc = *out.allocator();
     let logged = logged(alloc, store)?;

@@ -8,7 +8,7 @@ ghost use Rattle.fx_folder.specs.declared.fault.SaveFault.TheVariants.{WriteFaul
 ghost use Rattle.fx_folder.specs.Reads.{path_below};
 ghost use Rattle.fx_folder.specs.Folder.{IsReady, IfTold, SaveCause};
 ghost use Rattle.fx_folder.specs.Written.{IsOpen, with_entry, WrotePart, HasEntries};
-ghost use Rattle.fx_large.specs.Case.{case_in, script_name, IsWritten, IsPartlyWritten};
+ghost use Rattle.fx_large.specs.Case.{case_in, script_name, IsCaseWritten, IsPartlyWritten};
 ghost use Rattle.fx_large.specs.Wrote.{text_nodes, WroteTexts};
 
 use fx_base::NoMemory;
@@ -33,7 +33,7 @@ pub(crate) fn write_case<H: Host>(
     requires ready { IfSome (H.view host.old).told (λ t. IsReady t path.now there) }
     requires few { length case.now.scripts ≤ MOST_SCRIPTS }
     ensures written { OnOk result (IfTold (H.view host.old).told (H.view host.new).told
-        (λ t t'. IsWritten t t' (parts path.now) (case_in case.now))) }
+        (λ t t'. IsCaseWritten t t' (parts path.now) (case_in case.now))) }
     ensures part { OnErr result (IfTold (H.view host.old).told (H.view host.new).told
         (λ t t'. IsPartlyWritten t t' (parts path.now) (case_in case.now))) }
     ensures fault { IfErr result (SaveCause path.now there (H.view host.old) (H.view host.new)) }

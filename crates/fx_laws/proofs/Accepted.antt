@@ -24,7 +24,7 @@ use Rattle.fx_spec.specs.Describe.{file_value, flag_value, dir_value, link_value
 use Rattle.fx_spec.specs.Move.{Answered, fetch_shape, has_fetch_shape, fetched, of_shape, asks_flag, flag_at}
 use Rattle.fx_spec.specs.Edit.{set_to, names_node, link_node, is_content, stored_node, store_at}
 use Rattle.fx_spec.specs.Place.{PlaceTree}
-use Rattle.fx_laws.specs.Stored.{IsHeld, has_content, FetchedIsAccepted}
+use Rattle.fx_laws.specs.Stored.{IsHeldValue, has_content, FetchedIsAccepted}
 use Rattle.fx_laws.proofs.Stored.{content_there, file_there, flag_there, dir_there, link_there, held_of, flag_of_file, of_its_shape, same_content_is_accepted}
 
 each_passes : {A : Type 0} (P : A → Type 0) (test : A → Bool) → ((x : A) → P x → test x ≡ true) → (xs : List A) → All P xs → list_all test xs ≡ true
@@ -71,7 +71,7 @@ link_stored text ok =
 abbrev Accepts : Store → PlaceTree → Tree → Type 0
 Accepts S at v = (q : List (List ℕ)) × (node : Node) × (S q ≡ Some node) × (answer S (store_at v at) ≡ Ok (set_to q node ∷ []))
 
-accepted : (S : Store) → IsWhole S → (at : PlaceTree) (v : Tree) (node : Node) (q : List (List ℕ)) → IsHeld S at v node q → Accepts S at v
+accepted : (S : Store) → IsWhole S → (at : PlaceTree) (v : Tree) (node : Node) (q : List (List ℕ)) → IsHeldValue S at v node q → Accepts S at v
 accepted S whole at v node q held = (q, node, held.stands, same_content_is_accepted S whole at v node q held)
 
 by_form : (S : Store) → IsWhole S → (at : PlaceTree) (v : Tree) (spec : SpecTree) → at.spec ≡ spec → has_content spec ≡ true → answer S (fetched at.path at.env spec) ≡ Ok v → Accepts S at v

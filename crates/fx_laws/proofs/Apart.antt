@@ -12,7 +12,7 @@ use Rattle.fx_spec.specs.Task.{after, consulted, written}
 use Rattle.fx_spec.specs.Transaction.{end, way, left, kept, transaction, is_done}
 use Rattle.fx_spec.specs.Laws.{SameCourse}
 use Rattle.fx_spec.proofs.Tasks.{after-written, depends_on_way}
-use Rattle.fx_laws.specs.Apart.{OthersStay, Spares, AnswersAlike, ApartCommute}
+use Rattle.fx_laws.specs.Apart.{OthersStay, SparesConsulted, AnswersAlike, ApartCommute}
 use Rattle.fx_laws.proofs.Among.{Path, Each, Among, among_once, contains, same_on_all, is_set, over_unset, over_set}
 use Rattle.fx_laws.proofs.Touched.{written_consulted}
 
@@ -49,14 +49,14 @@ others_stay root t S p none = ap (λ (T : Store). T p) (left_over root t S) ∙ 
     at false e = e
 
 -- the course after a transaction that spares it
-same_course : (root : SpecTree) (u t : List CommandTree) (S : Store) → Spares root u t S → SameCourse root t S (left root u S)
+same_course : (root : SpecTree) (u t : List CommandTree) (S : Store) → SparesConsulted root u t S → SameCourse root t S (left root u S)
 same_course root u t S spares = depends_on_way root t S (left root u S) (same_on_all S (left root u S) (way root t S) (λ p c. sym (spares p c)))
 
-alike : (root : SpecTree) (u t : List CommandTree) (S : Store) → Spares root u t S → AnswersAlike root u t S
+alike : (root : SpecTree) (u t : List CommandTree) (S : Store) → SparesConsulted root u t S → AnswersAlike root u t S
 alike root u t S spares = let same = same_course root u t S spares in record { outputs = same.outputs; end = same.end }
 
 -- the second transaction after the first leaves what it keeps without it, on top of what the first leaves
-after_other : (root : SpecTree) (u t : List CommandTree) (S : Store) → Spares root u t S → left root t (left root u S) ≡ over (over S (kept root u S)) (kept root t S)
+after_other : (root : SpecTree) (u t : List CommandTree) (S : Store) → SparesConsulted root u t S → left root t (left root u S) ≡ over (over S (kept root u S)) (kept root t S)
 after_other root u t S spares =
     left_over root t (left root u S) ∙ (ap (λ cs. over (left root u S) cs) (same_course root u t S spares).kept ∙ ap (λ T. over T (kept root t S)) (left_over root u S))
 

@@ -28,7 +28,7 @@ use Rattle.fx_spec.specs.Move.{unrefused, needed}
 use Rattle.fx_spec.proofs.EditLaws.{edits_keep_whole}
 use Rattle.fx_spec.proofs.EditsWhole.{nothing_below}
 use Rattle.fx_laws.specs.Created.{IsRemovedAgain, CreationsAreUndone}
-use Rattle.fx_laws.specs.Edited.{IsWithin, IsWithout, IsMade}
+use Rattle.fx_laws.specs.Edited.{IsWithin, IsWithout, HasNodeMade}
 use Rattle.fx_laws.specs.Stored.{Same}
 use Rattle.fx_laws.proofs.Among.{Path}
 use Rattle.fx_laws.proofs.Edited.{creations_make, removals_remove}
@@ -72,7 +72,7 @@ removes T (m ∷ names) some =
 
 -- ---- both
 
-module _ (S T U : Store) (whole : IsWhole S) (here : Path) (n : List ℕ) (node : Node) (made : IsMade S T here n [] node) (old : Path) (dir : S here ≡ Some (Dir old)) (none : S (here /ₚ n) ≡ None) (without : IsWithout T U (here /ₚ n)) where
+module _ (S T U : Store) (whole : IsWhole S) (here : Path) (n : List ℕ) (node : Node) (made : HasNodeMade S T here n [] node) (old : Path) (dir : S here ≡ Some (Dir old)) (none : S (here /ₚ n) ≡ None) (without : IsWithout T U (here /ₚ n)) where
   unlisted : has old n ≡ false
   unlisted = sym (ap (λ x. lists x n) dir) ∙ (sym (whole.listed here n) ∙ ap is_some none)
 
@@ -110,7 +110,7 @@ creations_are_undone S whole at is_path here n landing cs e = by (bare_node at.s
     by : (o : Option Node) → bare_node at.spec ≡ o → IsRemovedAgain S (over S cs) at
     by None is = let refused : answer S (create_at at) ≡ Err Refusal.NoDefault = ap (λ o. answer S (unrefused (λ node. resolve at.path false >>= create_landed at.path node) (needed Refusal.NoDefault o))) is in cc
     by (Some node) is =
-        let made : IsMade S (over S cs) here n [] node = creations_make S at node here n [] is landing cs e in
+        let made : HasNodeMade S (over S cs) here n [] node = creations_make S at node here n [] is landing cs e in
         let kept : IsWhole (over S cs) = edits_keep_whole.create S whole at is_path cs e in
         let lands_there : lands (over S cs) at.path false ≡ At (here /ₚ n) = made_lands S (over S cs) whole kept here n [] node made true_landing.0.0 true_landing.0.1 true_landing.1 false (λ text same. refl) at.path landing in
         let some : 0 < length (here ++ n ∷ []) = omega (arith, length-append here (n ∷ [])) in

@@ -26,7 +26,7 @@ use Rattle.fx_spec.specs.Move.{Answered, unrefused, needed}
 use Rattle.fx_spec.proofs.EditLaws.{stored_node_ok, unless-ok, has_room}
 use Rattle.fx_spec.proofs.EditsKeep.{new_names_relist, removal_relists, can_remove, remove_is, ends_in, without_own, without_other}
 use Rattle.fx_spec.proofs.EditsWhole.{kept_target, longer, update_here, update_away}
-use Rattle.fx_laws.specs.Edited.{IsWithin, IsWithout, IsRelisted, IsMade, RemovalsRemove, StoresRelist, StoresMake, CreationsMake}
+use Rattle.fx_laws.specs.Edited.{IsWithin, IsWithout, IsRelisted, HasNodeMade, RemovalsRemove, StoresRelist, StoresMake, CreationsMake}
 
 abbrev Path : Type 0
 Path = List (List ℕ)
@@ -165,19 +165,19 @@ module _ (S : Store) (here : Path) (n : List ℕ) (names : Path) (node : Node) w
   abbrev listed_more : Change
   listed_more = set_to here (Dir (with_text n (names_of (S here))))
 
-  is_made : IsMade S (over S (listed_more ∷ made here n names node)) here n names node
+  is_made : HasNodeMade S (over S (listed_more ∷ made here n names node)) here n names node
   is_made = record {
     there = made_there (update S listed_more) here n names node;
     above = λ old e. made_away (update S listed_more) here n names node here (λ w. longer here w.0 n (w.1 ∙ append_assoc here (n ∷ []) w.0)) ∙ update_here S listed_more here refl ∙ ap (λ x. Some (Dir (with_text n (names_of x)))) e;
     others = λ r not_here apart. made_away (update S listed_more) here n names node r apart ∙ update_away S listed_more r not_here;
   }
 
-  made_by : (cs : List Change) → answer S (make here (n ∷ names) node) ≡ Ok cs → IsMade S (over S cs) here n names node
+  made_by : (cs : List Change) → answer S (make here (n ∷ names) node) ≡ Ok cs → HasNodeMade S (over S cs) here n names node
   made_by cs e =
       let is : answer S (make here (n ∷ names) node) ≡ Ok (listed_more ∷ made here n names node) = answer-look_all S (changed_paths (made here n names node)) _ in
-      subst (λ cs. IsMade S (over S cs) here n names node) (same_Ok (listed_more ∷ made here n names node) cs (sym is ∙ e)) is_made
+      subst (λ cs. HasNodeMade S (over S cs) here n names node) (same_Ok (listed_more ∷ made here n names node) cs (sym is ∙ e)) is_made
 
-  made_unless_deep : (cs : List Change) → answer S (unless_deep (is_too_deep here (n ∷ names) node) (make here (n ∷ names) node)) ≡ Ok cs → IsMade S (over S cs) here n names node
+  made_unless_deep : (cs : List Change) → answer S (unless_deep (is_too_deep here (n ∷ names) node) (make here (n ∷ names) node)) ≡ Ok cs → HasNodeMade S (over S cs) here n names node
   made_unless_deep cs e = made_by cs (unless-ok (is_too_deep here (n ∷ names) node) S (make here (n ∷ names) node) cs e).1
 
 pub stores_make : StoresMake

@@ -26,7 +26,7 @@ use Rattle.fx_spec.specs.Place.{PlaceTree}
 use Rattle.fx_spec.proofs.EditLaws.{edits_keep_whole}
 use Rattle.fx_spec.proofs.EditsWhole.{update_here, update_away}
 use Rattle.fx_laws.specs.Fetched.{IsFilePlace, IsFetched, FileStoresAreFetched, IsNewPlace, NewStoresAreFetched, LinkStoresAreFetched, DirectoryStoresAreFetched}
-use Rattle.fx_laws.specs.Edited.{IsMade}
+use Rattle.fx_laws.specs.Edited.{HasNodeMade}
 use Rattle.fx_laws.proofs.Among.{Path, Each}
 use Rattle.fx_laws.proofs.Edited.{stores_make, stores_relist}
 use Rattle.fx_laws.proofs.Landed.{made_lands}
@@ -144,7 +144,7 @@ new_there S at form v node is stores cs e = by is.names is.landing (subst (IsTru
     by : (names : Path) → lands S at.path (follows_last node) ≡ Absent is.here names → IsTrueOf S (Absent is.here names) → IsThere (over S cs) at.path node
     by [] landing wrong = absurd wrong
     by (n ∷ names) landing stands =
-        let made : IsMade S (over S cs) is.here n names node = stores_make S at v node is.here n names stores landing cs e in
+        let made : HasNodeMade S (over S cs) is.here n names node = stores_make S at v node is.here n names stores landing cs e in
         let kept : IsWhole (over S cs) = edits_keep_whole.store S is.whole at is.path v cs e in
         record {
           at = is.here ++ n ∷ names;

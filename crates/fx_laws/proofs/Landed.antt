@@ -15,7 +15,7 @@ use Rattle.fx_store.specs.Whole.{Store, IsWhole}
 use Rattle.fx_store.proofs.Landings.{lands_by_the_rules, listing_is_dir}
 use Rattle.fx_expr.specs.Sets.{with_text}
 use Rattle.fx_spec.proofs.EditsWhole.{nothing_below}
-use Rattle.fx_laws.specs.Edited.{IsWithin, IsMade}
+use Rattle.fx_laws.specs.Edited.{IsWithin, HasNodeMade}
 use Rattle.fx_laws.proofs.Among.{Path}
 
 -- ---- names that are missing
@@ -83,7 +83,7 @@ module _ (T : Store) (whole : IsWhole T) (follow : Bool) where
 
 -- ---- a node that is made
 
-module _ (S T : Store) (whole : IsWhole S) (kept : IsWhole T) (here : Path) (n : List ℕ) (names : Path) (node : Node) (made : IsMade S T here n names node) (old : Path) (dir : S here ≡ Some (Dir old)) (none : S (here /ₚ n) ≡ None) where
+module _ (S T : Store) (whole : IsWhole S) (kept : IsWhole T) (here : Path) (n : List ℕ) (names : Path) (node : Node) (made : HasNodeMade S T here n names node) (old : Path) (dir : S here ≡ Some (Dir old)) (none : S (here /ₚ n) ≡ None) where
   pub still : (p : Path) (x : Node) → S p ≡ Some x → p ≢ here → T p ≡ Some x
   still p x is apart = made.others p apart not_within ∙ is
     where

@@ -17,7 +17,7 @@ use Rattle.fx_spec.specs.Describe.{Bindings, with_some, exists, focus_path, argu
 use Rattle.fx_spec.specs.Move.{Answered, unrefused, needed, at_place, then_step, element, this_if, chosen, with_arguments, go_into, go_to, go_down, another, go_next, go_prev, go_out, go_up}
 use Rattle.fx_spec.specs.Place.{Step, First, Second, Inside, Down, Body, Elem, Address, PlaceTree, placed, where_true, has_element, at_path, in_body, lead, place}
 use Rattle.fx_spec.specs.Transaction.{from_place}
-use Rattle.fx_laws.specs.Moved.{Leads, MovesLeadToPlaces, MovesAreUndone}
+use Rattle.fx_laws.specs.Moved.{LeadsToPlace, MovesLeadToPlaces, MovesAreUndone}
 
 -- ---- rules and places
 
@@ -163,13 +163,13 @@ module _ (S : Store) (root : SpecTree) (a : Address) where
       steps p env (SpecTree.last args params) h = cc
       steps p env (SpecTree.comp s x set) h = comp_steps S a p env s x set choice is b h
 
-into_leads : (root : SpecTree) (S : Store) (a : Address) → Leads root S (from_place root a go_into)
+into_leads : (root : SpecTree) (S : Store) (a : Address) → LeadsToPlace root S (from_place root a go_into)
 into_leads root S a b e = placed_move S root a (λ at. go_into a at.path at.env at.spec) b (λ at is h. step_leads S root a at b is (into_steps S a at.path at.env at.spec b h)) e
 
-to_leads : (root : SpecTree) (S : Store) (a : Address) (t : List ℕ) → Leads root S (from_place root a (go_to t))
+to_leads : (root : SpecTree) (S : Store) (a : Address) (t : List ℕ) → LeadsToPlace root S (from_place root a (go_to t))
 to_leads root S a t b e = placed_move S root a (λ at. go_to t a at.path at.env at.spec) b (λ at is h. step_leads S root a at b is (to_steps S t a at.path at.env at.spec b h)) e
 
-goes_down : (root : SpecTree) (S : Store) (a : Address) → Leads root S (from_place root a go_down)
+goes_down : (root : SpecTree) (S : Store) (a : Address) → LeadsToPlace root S (from_place root a go_down)
 goes_down root S a b e = placed_move S root a (λ at. go_down a at.path at.env at.spec) b (λ at is h. down_leads S root a at b is (down_steps S a at.path at.env at.spec b h)) e
 
 -- where the first part has a place, the second is led to where the first has a value
@@ -209,7 +209,7 @@ no_step S root a b e = placed_move S root a (λ at. Answer (Err Refusal.NoStep))
     wrong : ◌≡◌ {A = Answered Address} (Err Refusal.NoStep) (Ok b) → ⊥
     wrong h = cc
 
-next_leads : (root : SpecTree) (S : Store) (a : Address) → Leads root S (go_next root a)
+next_leads : (root : SpecTree) (S : Store) (a : Address) → LeadsToPlace root S (go_next root a)
 next_leads root S (First ∷ a) b e =
     placed_move S root (First ∷ a) (λ at. value at.path at.env at.spec >>= λ v. Answer (cond (is_some v) (Ok (Second ∷ a)) (Err Refusal.Lacks))) b
     (λ at is h. by at is (answer S (value at.path at.env at.spec)) refl (sym (answer-bind S (value at.path at.env at.spec) (λ v. Answer (cond (is_some v) (Ok (Second ∷ a)) (Err Refusal.Lacks)))) ∙ h)) e
@@ -244,7 +244,7 @@ first_leads S root a at above is second = ap is_some (place_step S root a above 
     by p env (SpecTree.last args params) e = cc
     by p env (SpecTree.pair x s u) e = refl
 
-prev_leads : (root : SpecTree) (S : Store) (a : Address) → Leads root S (go_prev root a)
+prev_leads : (root : SpecTree) (S : Store) (a : Address) → LeadsToPlace root S (go_prev root a)
 prev_leads root S (Second ∷ a) b e = placed_move S root (Second ∷ a) (λ at. Answer (Ok (First ∷ a))) b (λ at is h. by at is h) e
   where
     by : (at : PlaceTree) → answer S (place root (Second ∷ a)) ≡ Some at → ◌≡◌ {A = Answered Address} (Ok (First ∷ a)) (Ok b) → IsSome (answer S (place root b))

@@ -12,7 +12,7 @@ use Rattle.fx_store.specs.declared.node.Node.TheVariants.{File, Dir, Link}
 use Rattle.fx_store.specs.Examples.{store_of}
 use Rattle.fx_spec.specs.Edit.{set_to, removed}
 use Rattle.fx_laws.specs.Shorthands.{into, next, down, create, remove}
-use Rattle.fx_laws.specs.Retried.{two_files, with_files, x_to_y, y_to_x, text_files, one_text, two_texts, add_text, through_link, with_current, turn, maybe_file, nothing_there, with_entry, all_files, one_file, EachReadsAndWrites, NamesAreAdded, LinkIsTurned, EntryIsMade, ElementIsRemoved}
+use Rattle.fx_laws.specs.Retried.{two_files, with_files, x_to_y, y_to_x, text_files, one_text, two_texts, add_text, through_link, with_current, turn, maybe_file, nothing_there, one_entry, all_files, one_file, EachReadsAndWrites, NamesAreAdded, LinkIsTurned, EntryIsMade, ElementIsRemoved}
 use Rattle.fx_laws.proofs.Left.{leaves_kept, same_stores}
 
 pub each_reads_and_writes : EachReadsAndWrites
@@ -43,7 +43,7 @@ pub entry_is_made : EntryIsMade
 unfolding is_utf8 chars encode is_name resolve value place clear transaction
 entry_is_made = record {
   missing = record { outputs = refl; end = refl; way = refl; kept = refl };
-  made = record { does = record { outputs = refl; end = refl; way = refl; kept = refl }; leaves = leaves_kept (maybe_file) (down ∷ create ∷ []) (store_of (nothing_there)) (store_of (with_entry)) (set_to [] (Dir (codes "m" ∷ [])) ∷ set_to (codes "m" ∷ []) (File [] false) ∷ []) refl (same_stores (nothing_there) (with_entry) (set_to [] (Dir (codes "m" ∷ [])) ∷ set_to (codes "m" ∷ []) (File [] false) ∷ []) (refl, tt) (refl, (refl, tt)) (refl, (refl, tt))) };
+  made = record { does = record { outputs = refl; end = refl; way = refl; kept = refl }; leaves = leaves_kept (maybe_file) (down ∷ create ∷ []) (store_of (nothing_there)) (store_of (one_entry)) (set_to [] (Dir (codes "m" ∷ [])) ∷ set_to (codes "m" ∷ []) (File [] false) ∷ []) refl (same_stores (nothing_there) (one_entry) (set_to [] (Dir (codes "m" ∷ [])) ∷ set_to (codes "m" ∷ []) (File [] false) ∷ []) (refl, tt) (refl, (refl, tt)) (refl, (refl, tt))) };
   again = record { outputs = refl; end = refl; way = refl; kept = refl };
 }
 

@@ -13,7 +13,7 @@ use Rattle.fx_store.specs.Examples.{store_of}
 use Rattle.fx_spec.specs.Edit.{set_to, removed}
 use Rattle.fx_spec.specs.SpecTree.{SpecTree}
 use Rattle.fx_spec.specs.CommandTree.{ActTree}
-use Rattle.fx_laws.specs.Shorthands.{union, one, into, next, down, store, remove, try_and_show}
+use Rattle.fx_laws.specs.Shorthands.{union, set_of_one, into, next, down, store, remove, try_and_show}
 use Rattle.fx_laws.specs.Retried.{all_files}
 use Rattle.fx_laws.specs.Scripted.{a_and_b, b_alone, nested_and_g, g_and_h, LeavesNoPlace, DropsSubtree, JoinsChosenFiles, NumbersFault, RefusedAtRoot, TakesItsWayAway}
 use Rattle.fx_laws.proofs.Left.{leaves_kept, same_stores}
@@ -24,7 +24,7 @@ leaves_no_place = record { does = record { outputs = refl; end = refl; way = ref
 
 pub drops_subtree : DropsSubtree
 unfolding is_utf8 chars encode is_name resolve value place clear transaction
-drops_subtree = record { does = record { outputs = refl; end = refl; way = refl; kept = refl }; leaves = leaves_kept (SpecTree.dir) (store (union (one (codes "g")) (one (codes "h"))) ∷ []) (store_of (nested_and_g)) (store_of (g_and_h)) (set_to [] (Dir (codes "g" ∷ codes "h" ∷ [])) ∷ removed (codes "d" ∷ []) ∷ removed (codes "d" ∷ codes "e" ∷ []) ∷ removed (codes "d" ∷ codes "e" ∷ codes "f" ∷ []) ∷ set_to (codes "h" ∷ []) (File [] false) ∷ []) refl (same_stores (nested_and_g) (g_and_h) (set_to [] (Dir (codes "g" ∷ codes "h" ∷ [])) ∷ removed (codes "d" ∷ []) ∷ removed (codes "d" ∷ codes "e" ∷ []) ∷ removed (codes "d" ∷ codes "e" ∷ codes "f" ∷ []) ∷ set_to (codes "h" ∷ []) (File [] false) ∷ []) (refl, (refl, (refl, (refl, (refl, tt))))) (refl, (refl, (refl, tt))) (refl, (refl, (refl, (refl, (refl, tt)))))) }
+drops_subtree = record { does = record { outputs = refl; end = refl; way = refl; kept = refl }; leaves = leaves_kept (SpecTree.dir) (store (union (set_of_one (codes "g")) (set_of_one (codes "h"))) ∷ []) (store_of (nested_and_g)) (store_of (g_and_h)) (set_to [] (Dir (codes "g" ∷ codes "h" ∷ [])) ∷ removed (codes "d" ∷ []) ∷ removed (codes "d" ∷ codes "e" ∷ []) ∷ removed (codes "d" ∷ codes "e" ∷ codes "f" ∷ []) ∷ set_to (codes "h" ∷ []) (File [] false) ∷ []) refl (same_stores (nested_and_g) (g_and_h) (set_to [] (Dir (codes "g" ∷ codes "h" ∷ [])) ∷ removed (codes "d" ∷ []) ∷ removed (codes "d" ∷ codes "e" ∷ []) ∷ removed (codes "d" ∷ codes "e" ∷ codes "f" ∷ []) ∷ set_to (codes "h" ∷ []) (File [] false) ∷ []) (refl, (refl, (refl, (refl, (refl, tt))))) (refl, (refl, (refl, tt))) (refl, (refl, (refl, (refl, (refl, tt)))))) }
 
 pub joins_chosen_files : JoinsChosenFiles
 unfolding is_utf8 chars encode is_name resolve value place clear transaction

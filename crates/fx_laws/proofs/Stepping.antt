@@ -10,7 +10,7 @@ use Rattle.std.proofs.lemmas.Option.{slice_get_within, get_or_from_slice_get}
 use Rattle.fx_base.proofs.Orders.{nat_list_exact}
 use Rattle.fx_text.specs.Sets.{IsAscending, has_text, least_above, greatest_below, item_before}
 use Rattle.fx_text.proofs.Nearest.{above_found, below_found}
-use Rattle.fx_laws.specs.Stepping.{AboveThenBelow, BelowThenAbove, stepped, StepsReachEach}
+use Rattle.fx_laws.specs.Stepping.{AboveThenBelow, BelowThenAbove, steps_up, StepsReachEach}
 
 -- an element has a place
 place_of : (t : List ℕ) (ts : List (List ℕ)) → has_text t ts ≡ true → (i : ℕ) × (slice_get ts i ≡ Some t)
@@ -46,7 +46,7 @@ below_then_above ts t u up has prev =
     let v = before ts w.0 u (sym (prev_at ts up w.0 t w.1) ∙ prev) in
     next_at ts up v.0 u v.1.1 ∙ (ap (slice_get ts) (sym v.1.0) ∙ w.1)
 
-first_step : (ts : List (List ℕ)) → stepped ts zero ≡ slice_get ts zero
+first_step : (ts : List (List ℕ)) → steps_up ts zero ≡ slice_get ts zero
 first_step [] = refl
 first_step (t ∷ ts) = refl
 
@@ -59,6 +59,6 @@ pub steps_reach_each : StepsReachEach
 steps_reach_each ts up zero = first_step ts
 steps_reach_each ts up (suc n) = by (slice_get ts n) refl (steps_reach_each ts up n)
   where
-    by : (o : Option (List ℕ)) → slice_get ts n ≡ o → stepped ts n ≡ slice_get ts n → stepped ts (suc n) ≡ slice_get ts (suc n)
+    by : (o : Option (List ℕ)) → slice_get ts n ≡ o → steps_up ts n ≡ slice_get ts n → steps_up ts (suc n) ≡ slice_get ts (suc n)
     by None is h = ap (option_and_then (λ t. least_above t ts)) (h ∙ is) ∙ sym (none_behind ts n is)
     by (Some t) is h = ap (option_and_then (λ t. least_above t ts)) (h ∙ is) ∙ next_at ts up n t is

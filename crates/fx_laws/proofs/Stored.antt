@@ -37,7 +37,7 @@ use Rattle.fx_spec.specs.Place.{Address, PlaceTree, place}
 use Rattle.fx_spec.specs.Task.{Task, Ends, Looks, Sets, result, after, asking, ◌>=>◌}
 use Rattle.fx_spec.specs.Transaction.{edits, effect, Standing, Flow, On, Over, go_on, binding, or_stop, taking, run, run_block, transaction, flow_end, is_done, end}
 use Rattle.fx_spec.proofs.EditsClear.{has-set_of}
-use Rattle.fx_laws.specs.Stored.{IsHeld, Same, SameContentIsAccepted, SameContentChangesNothing, storing, fetching_and_storing, ChangesNothing, SameStoreChangesNothing, FetchedStoreChangesNothing, LastLeaveNothing, SameStoreLeavesNothing, FetchedStoreLeavesNothing}
+use Rattle.fx_laws.specs.Stored.{IsHeldValue, Same, SameContentIsAccepted, SameContentChangesNothing, storing, fetching_and_storing, ChangesNothing, SameStoreChangesNothing, FetchedStoreChangesNothing, LastLeaveNothing, SameStoreLeavesNothing, FetchedStoreLeavesNothing}
 
 -- ---------------------------------------------------------------------------------------------- the changes of such a store
 
@@ -107,7 +107,7 @@ replaced_deep S q flag made (Dir names) holds deep =
     ap (λ m. answer S (replaced flag q m (Some (Dir names)))) (renewed_dir flag made names holds) ∙ ap (λ b. answer S (unless_deep b (new_names q names names))) deep
 
 -- a store of what is held replaces a node by itself
-store_replaces : (S : Store) (at : PlaceTree) (v : Tree) (node : Node) (q : List (List ℕ)) (held : IsHeld S at v node q) → answer S (store_at v at) ≡ answer S (replaced (is_flag v) q held.made (Some node))
+store_replaces : (S : Store) (at : PlaceTree) (v : Tree) (node : Node) (q : List (List ℕ)) (held : IsHeldValue S at v node q) → answer S (store_at v at) ≡ answer S (replaced (is_flag v) q held.made (Some node))
 store_replaces S at v node q held =
     ap (λ x. answer S (unrefused (λ made. resolve at.path (follows_last made) >>= store_landed (is_flag v) at.path made) x)) held.stores
     ∙ answer-bind S (resolve at.path (follows_last held.made)) (store_landed (is_flag v) at.path held.made)
@@ -287,7 +287,7 @@ node_of S at v changes e = go (stored_node at.spec v) refl e
     go (Err f) h g = absurd (cc)
 
 -- a node that the made one replaces by itself, where the place's path lands
-pub held_of : (S : Store) (at : PlaceTree) (v w : Tree) (made is node : Node) (q : List (List ℕ)) → stored_node at.spec v ≡ Ok made → made ≡ is → v ≡ w → renewed (is_flag w) is node ≡ node → lands S at.path (follows_last is) ≡ At q → S q ≡ Some node → IsHeld S at v node q
+pub held_of : (S : Store) (at : PlaceTree) (v w : Tree) (made is node : Node) (q : List (List ℕ)) → stored_node at.spec v ≡ Ok made → made ≡ is → v ≡ w → renewed (is_flag w) is node ≡ node → lands S at.path (follows_last is) ≡ At q → S q ≡ Some node → IsHeldValue S at v node q
 held_of S at v w made is node q e same value holds l n = record {
   made = made;
   stores = e;
@@ -298,7 +298,7 @@ held_of S at v w made is node q e same value holds l n = record {
 
 -- some node holds the value where a store at the place lands
 abbrev HoldsIt : Store → PlaceTree → Tree → Type 0
-HoldsIt S at v = (q : List (List ℕ)) × (node : Node) × IsHeld S at v node q
+HoldsIt S at v = (q : List (List ℕ)) × (node : Node) × IsHeldValue S at v node q
 
 fetched_held : (S : Store) (at : PlaceTree) (v : Tree) (made : Node) (spec : SpecTree) → at.spec ≡ spec → stored_node spec v ≡ Ok made → answer S (fetched at.path at.env spec) ≡ Ok v → HoldsIt S at v
 fetched_held S at v made SpecTree.file is e f =

@@ -48,7 +48,7 @@ StoresRelist =
 
 -- the second filestore is the first with a node made at missing names of a directory: the node is there, the directory lists
 -- the first of the names besides, and any path that is not within the first name keeps its node
-pub record IsMade (S T : Store) (here : List (List ℕ)) (n : List ℕ) (names : List (List ℕ)) (node : Node) : Type 0 where
+pub record HasNodeMade (S T : Store) (here : List (List ℕ)) (n : List ℕ) (names : List (List ℕ)) (node : Node) : Type 0 where
   pub there : T (here ++ n ∷ names) ≡ Some node
   pub above : (old : List (List ℕ)) → S here ≡ Some (Dir old) → T here ≡ Some (Dir (with_text n old))
   pub others : (r : List (List ℕ)) → r ≢ here → (IsWithin (here /ₚ n) r → ⊥) → T r ≡ S r
@@ -57,10 +57,10 @@ pub record IsMade (S T : Store) (here : List (List ℕ)) (n : List ℕ) (names :
 abbrev pub StoresMake : Type 0
 StoresMake =
     (S : Store) (at : PlaceTree) (v : Tree) (node : Node) (here : List (List ℕ)) (n : List ℕ) (names : List (List ℕ)) → stored_node at.spec v ≡ Ok node → lands S at.path (follows_last node) ≡ Absent here (n ∷ names)
-    → (changes : List Change) → answer S (store_at v at) ≡ Ok changes → IsMade S (over S changes) here n names node
+    → (changes : List Change) → answer S (store_at v at) ≡ Ok changes → HasNodeMade S (over S changes) here n names node
 
 -- and a creation, of the form's empty node
 abbrev pub CreationsMake : Type 0
 CreationsMake =
     (S : Store) (at : PlaceTree) (node : Node) (here : List (List ℕ)) (n : List ℕ) (names : List (List ℕ)) → bare_node at.spec ≡ Some node → lands S at.path false ≡ Absent here (n ∷ names)
-    → (changes : List Change) → answer S (create_at at) ≡ Ok changes → IsMade S (over S changes) here n names node
+    → (changes : List Change) → answer S (create_at at) ≡ Ok changes → HasNodeMade S (over S changes) here n names node

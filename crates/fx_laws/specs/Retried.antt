@@ -14,7 +14,7 @@ use Rattle.fx_spec.specs.CommandTree.{CommandTree}
 use Rattle.fx_spec.specs.Edit.{set_to, removed}
 use Rattle.fx_spec.specs.Examples.{Does, text}
 use Rattle.fx_laws.specs.Left.{Entries, Commits}
-use Rattle.fx_laws.specs.Shorthands.{var, join, union, one, file_at, files_of, into, next, prev, down, up, store, create, remove, fetch_text, fetch_names, show, texts, numbers}
+use Rattle.fx_laws.specs.Shorthands.{var, join, union, set_of_one, file_at, files_of, into, next, prev, down, up, store, create, remove, fetch_text, fetch_names, show, texts, numbers}
 
 -- ---- two files, of which each shell reads one and writes the other
 
@@ -60,7 +60,7 @@ count_texts = into ∷ next ∷ fetch_names (codes "s") ∷ CommandTree.print (E
 
 -- one more name in the directory
 abbrev pub add_text : List CommandTree
-add_text = into ∷ fetch_names (codes "d") ∷ store (union (var (codes "d")) (one (codes "b.txt"))) ∷ []
+add_text = into ∷ fetch_names (codes "d") ∷ store (union (var (codes "d")) (set_of_one (codes "b.txt"))) ∷ []
 
 -- the directory alone is consulted for the count; who adds a name changes the directory and makes an empty file
 pub record NamesAreAdded : Type 0 where
@@ -105,8 +105,8 @@ abbrev pub nothing_there : Entries
 nothing_there = ([], Dir []) ∷ []
 
 -- an empty file `m`
-abbrev pub with_entry : Entries
-with_entry = ([], Dir (codes "m" ∷ [])) ∷ (codes "m" ∷ [], File [] false) ∷ []
+abbrev pub one_entry : Entries
+one_entry = ([], Dir (codes "m" ∷ [])) ∷ (codes "m" ∷ [], File [] false) ∷ []
 
 -- whether the file is there
 abbrev pub is_there : List CommandTree
@@ -115,8 +115,8 @@ is_there = down ∷ CommandTree.fetch (codes "b") ShapeTree.bool ∷ show (codes
 -- the missing entry is consulted too
 pub record EntryIsMade : Type 0 where
   pub missing : Does maybe_file (store_of nothing_there) is_there (Tree.bool false ∷ []) End.Done ((codes "m" ∷ []) ∷ []) []
-  pub made : Commits maybe_file nothing_there (down ∷ create ∷ []) [] ((codes "m" ∷ []) ∷ [] ∷ []) (set_to [] (Dir (codes "m" ∷ [])) ∷ set_to (codes "m" ∷ []) (File [] false) ∷ []) with_entry
-  pub again : Does maybe_file (store_of with_entry) is_there (Tree.bool true ∷ []) End.Done ((codes "m" ∷ []) ∷ []) []
+  pub made : Commits maybe_file nothing_there (down ∷ create ∷ []) [] ((codes "m" ∷ []) ∷ [] ∷ []) (set_to [] (Dir (codes "m" ∷ [])) ∷ set_to (codes "m" ∷ []) (File [] false) ∷ []) one_entry
+  pub again : Does maybe_file (store_of one_entry) is_there (Tree.bool true ∷ []) End.Done ((codes "m" ∷ []) ∷ []) []
 
 -- ---- an element, which is read and removed
 

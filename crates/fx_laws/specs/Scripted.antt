@@ -13,7 +13,7 @@ use Rattle.fx_spec.specs.CommandTree.{ActTree, CommandTree, block}
 use Rattle.fx_spec.specs.Edit.{set_to, removed}
 use Rattle.fx_spec.specs.Examples.{Does, text, a_file, with_a}
 use Rattle.fx_laws.specs.Left.{Entries, Commits}
-use Rattle.fx_laws.specs.Shorthands.{var, join, union, one, into, to, next, out, down, up, store, remove, fetch_text, fetch_names, show, try_and_show, texts, numbers}
+use Rattle.fx_laws.specs.Shorthands.{var, join, union, set_of_one, into, to, next, out, down, up, store, remove, fetch_text, fetch_names, show, try_and_show, texts, numbers}
 use Rattle.fx_laws.specs.Retried.{all_files, text_files, nothing_there}
 
 -- two files
@@ -45,7 +45,7 @@ g_and_h = ([], Dir (codes "g" ∷ codes "h" ∷ [])) ∷ (codes "g" ∷ [], File
 -- a dropped name goes with all below it, a new one is an empty file, and one that stays is not touched
 abbrev pub DropsSubtree : Type 0
 DropsSubtree =
-    Commits SpecTree.dir nested_and_g (store (union (one (codes "g")) (one (codes "h"))) ∷ []) []
+    Commits SpecTree.dir nested_and_g (store (union (set_of_one (codes "g")) (set_of_one (codes "h"))) ∷ []) []
     ([] ∷ (codes "d" ∷ []) ∷ (codes "d" ∷ codes "e" ∷ []) ∷ (codes "d" ∷ codes "e" ∷ codes "f" ∷ []) ∷ (codes "h" ∷ []) ∷ [])
     (set_to [] (Dir (codes "g" ∷ codes "h" ∷ [])) ∷ removed (codes "d" ∷ []) ∷ removed (codes "d" ∷ codes "e" ∷ []) ∷ removed (codes "d" ∷ codes "e" ∷ codes "f" ∷ []) ∷ set_to (codes "h" ∷ []) (File [] false) ∷ [])
     g_and_h
@@ -76,7 +76,7 @@ pub record NumbersFault : Type 0 where
 abbrev pub RefusedAtRoot : Type 0
 RefusedAtRoot =
     Does SpecTree.dir (store_of nothing_there)
-    (try_and_show (codes "e") (ActTree.store (one (codes ".forest-links"))) (try_and_show (codes "f") (ActTree.store (text (codes "x"))) (try_and_show (codes "g") ActTree.create (try_and_show (codes "h") ActTree.remove []))))
+    (try_and_show (codes "e") (ActTree.store (set_of_one (codes ".forest-links"))) (try_and_show (codes "f") (ActTree.store (text (codes "x"))) (try_and_show (codes "g") ActTree.create (try_and_show (codes "h") ActTree.remove []))))
     (numbers (8 ∷ 5 ∷ 12 ∷ 6 ∷ [])) End.Done [] []
 
 -- a directory that is reached through a link in it, which leads to the directory
@@ -90,7 +90,7 @@ link_to_here = ([], Dir (codes "l" ∷ [])) ∷ (codes "l" ∷ [], Link (codes "
 -- a store that is not refused takes its own way away: it drops the link that leads to the directory, or turns the link that
 -- leads to itself; so nothing is fetched
 pub record TakesItsWayAway : Type 0 where
-  pub directory : Does (SpecTree.focus (text (codes "d/l")) SpecTree.dir) (store_of own_link) (down ∷ store (one (codes "x")) ∷ fetch_names (codes "v") ∷ []) [] (End.Stopped 2 Refusal.Lacks)
+  pub directory : Does (SpecTree.focus (text (codes "d/l")) SpecTree.dir) (store_of own_link) (down ∷ store (set_of_one (codes "x")) ∷ fetch_names (codes "v") ∷ []) [] (End.Stopped 2 Refusal.Lacks)
       ((codes "d" ∷ []) ∷ (codes "d" ∷ codes "l" ∷ []) ∷ (codes "d" ∷ codes "x" ∷ []) ∷ []) []
   pub link : Does (SpecTree.focus (text (codes "l/l")) SpecTree.link) (store_of link_to_here) (down ∷ store (text (codes "nowhere")) ∷ fetch_text (codes "v") ∷ []) [] (End.Stopped 2 Refusal.Lacks)
       ((codes "l" ∷ []) ∷ (codes "nowhere" ∷ []) ∷ []) []

@@ -21,8 +21,8 @@ union a b = ExprTree.bin BinOp.Union a b
 abbrev pub minus : ExprTree → ExprTree → ExprTree
 minus a b = ExprTree.bin BinOp.Minus a b
 
-abbrev pub one : List ℕ → ExprTree
-one t = ExprTree.un UnOp.One (ExprTree.str t)
+abbrev pub set_of_one : List ℕ → ExprTree
+set_of_one t = ExprTree.un UnOp.One (ExprTree.str t)
 
 -- a file at an entry
 abbrev pub file_at : List ℕ → SpecTree

@@ -9,7 +9,7 @@ use Rattle.fx_expr.specs.Eval.{eval_of}
 use Rattle.fx_expr.specs.ExprTree.{ExprTree}
 use Rattle.fx_expr.specs.Tree.{Tree}
 use Rattle.fx_spec.specs.Examples.{text}
-use Rattle.fx_laws.specs.Shorthands.{union, minus, one}
+use Rattle.fx_laws.specs.Shorthands.{union, minus, set_of_one}
 
 -- the integer that a text spells
 abbrev pub int : List ℕ → ExprTree
@@ -25,7 +25,7 @@ least_number = minus (zero_less 9223372036854775807) (ExprTree.int (pos 1))
 
 -- a set of four texts
 abbrev pub four_texts : ExprTree
-four_texts = union (one (codes "ab")) (union (one (codes "abc")) (union (one (codes "axbz")) (one (codes "b"))))
+four_texts = union (set_of_one (codes "ab")) (union (set_of_one (codes "abc")) (union (set_of_one (codes "axbz")) (set_of_one (codes "b"))))
 
 -- what some expressions give
 pub record ExpressionExamples : Type 0 where

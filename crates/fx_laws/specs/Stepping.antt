@@ -12,10 +12,10 @@ abbrev pub BelowThenAbove : Type 0
 BelowThenAbove = (ts : List (List ℕ)) (t u : List ℕ) → IsAscending ts → has_text t ts ≡ true → greatest_below t ts ≡ Some u → least_above u ts ≡ Some t
 
 -- the least element, and then so many steps to the least one above
-abbrev pub stepped : List (List ℕ) → ℕ → Option (List ℕ)
-stepped ts zero = least ts
-stepped ts (suc n) = option_and_then (λ t. least_above t ts) (stepped ts n)
+abbrev pub steps_up : List (List ℕ) → ℕ → Option (List ℕ)
+steps_up ts zero = least ts
+steps_up ts (suc n) = option_and_then (λ t. least_above t ts) (steps_up ts n)
 
 -- in an ascending set so many steps lead to the element at that place, and behind the last one to none
 abbrev pub StepsReachEach : Type 0
-StepsReachEach = (ts : List (List ℕ)) → IsAscending ts → (n : ℕ) → stepped ts n ≡ slice_get ts n
+StepsReachEach = (ts : List (List ℕ)) → IsAscending ts → (n : ℕ) → steps_up ts n ≡ slice_get ts n

@@ -21,7 +21,7 @@ use Rattle.fx_spec.specs.Transaction.{Standing, On, run_block, transaction, end,
 
 -- the value is what the node holds at which a store at the place lands: a file's bytes or its flag, a directory's names or a
 -- link's text; the node that is made of the value replaces it by itself
-pub record IsHeld (S : Store) (at : PlaceTree) (v : Tree) (node : Node) (q : List (List ℕ)) : Type 0 where
+pub record IsHeldValue (S : Store) (at : PlaceTree) (v : Tree) (node : Node) (q : List (List ℕ)) : Type 0 where
   pub made : Node
   pub stores : stored_node at.spec v ≡ Ok made
   pub holds : renewed (is_flag v) made node ≡ node
@@ -34,12 +34,12 @@ Same S T = (p : List (List ℕ)) → T p ≡ S p
 
 -- on a whole filestore the store of what is held is accepted, and sets the node to what it is
 abbrev pub SameContentIsAccepted : Type 0
-SameContentIsAccepted = (S : Store) → IsWhole S → (at : PlaceTree) (v : Tree) (node : Node) (q : List (List ℕ)) → IsHeld S at v node q → answer S (store_at v at) ≡ Ok (set_to q node ∷ [])
+SameContentIsAccepted = (S : Store) → IsWhole S → (at : PlaceTree) (v : Tree) (node : Node) (q : List (List ℕ)) → IsHeldValue S at v node q → answer S (store_at v at) ≡ Ok (set_to q node ∷ [])
 
 -- wherever such a store is accepted, each path keeps what it has
 abbrev pub SameContentChangesNothing : Type 0
 SameContentChangesNothing =
-    (S : Store) (at : PlaceTree) (v : Tree) (node : Node) (q : List (List ℕ)) → IsHeld S at v node q → (changes : List Change) → answer S (store_at v at) ≡ Ok changes → Same S (over S changes)
+    (S : Store) (at : PlaceTree) (v : Tree) (node : Node) (q : List (List ℕ)) → IsHeldValue S at v node q → (changes : List Change) → answer S (store_at v at) ≡ Ok changes → Same S (over S changes)
 
 -- a form whose content is fetched and stored: a file, a directory or a link
 abbrev pub has_content : SpecTree → Bool
@@ -62,7 +62,7 @@ pub record StoresSame (root : SpecTree) (s : Standing) (e : ExprTree) (S : Store
   pub path : List (List ℕ)
   pub place : answer S (place root s.address) ≡ Some at
   pub expression : eval_of s.vars e ≡ Ok value
-  pub held : IsHeld S at value node path
+  pub held : IsHeldValue S at value node path
 
 -- the store of an expression
 abbrev pub storing : ExprTree → List CommandTree

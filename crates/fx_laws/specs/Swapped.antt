@@ -21,12 +21,12 @@ NeighboursMaySwap =
     (base : BaseTree) (before later : List Turn) (a b : Turn) → AreNeighbours base before a b → (i : ℕ) → state base (before ++ a ∷ b ∷ later) (length before + (2 + i)) ≡ state base (before ++ b ∷ a ∷ later) (length before + (2 + i))
 
 -- the transactions of the first script, in its order
-abbrev pub alone : ℕ → List Turn
-alone count = map (λ n. (0, n)) (first_numbers count)
+abbrev pub first_script_turns : ℕ → List Turn
+first_script_turns count = map (λ n. (0, n)) (first_numbers count)
 
 -- of one script there is one complete order: the script's
 abbrev pub OneScriptOneOrder : Type 0
-OneScriptOneOrder = (base : BaseTree) (o : List Turn) → length base.plan ≡ 1 → IsComplete base o → o ≡ alone (count_of base.plan 0)
+OneScriptOneOrder = (base : BaseTree) (o : List Turn) → length base.plan ≡ 1 → IsComplete base o → o ≡ first_script_turns (count_of base.plan 0)
 
 -- a complete order has as many entries as the scripts have transactions together
 abbrev pub CompleteOrdersAreLong : Type 0

@@ -13,7 +13,7 @@ use Rattle.fx_store.specs.Names.{path_cmp}
 use Rattle.fx_store.specs.Orders.{path_total}
 use Rattle.fx_store.specs.Whole.{Store, Nodes, IsWhole, over, over_nodes, update}
 use Rattle.fx_spec.proofs.Tasks.{get-set_node, get-over_nodes}
-use Rattle.fx_gen.specs.Notes.{Placed, made, placed, project, part_names, config, nodes, changes_to}
+use Rattle.fx_gen.specs.Notes.{Placed, made, all_placed, project, part_names, config, nodes, changes_to}
 use Rattle.fx_gen.proofs.Placing.{changes_whole}
 use Rattle.fx_laws_above.proofs.Sixteen.{each_of_16}
 use Rattle.fx_laws_above.proofs.States.{Stands}
@@ -47,18 +47,18 @@ len-grown m (e ∷ es) =
 begun_size : (number : ℕ) → len (nodes number) ≡ 195
 unfolding changes_to
 begun_size number =
-    len-grown root_only (placed number)
-    ∙ ap (λ S. grown S (len root_only) (placed number)) root_is
-    ∙ ap (λ n. grown root n (placed number)) root_size
+    len-grown root_only (all_placed number)
+    ∙ ap (λ S. grown S (len root_only) (all_placed number)) root_is
+    ∙ ap (λ n. grown root n (all_placed number)) root_size
     ∙ refl
 
-begun_get : (number : ℕ) → get (nodes number) ≡ over root (map made (placed number))
+begun_get : (number : ℕ) → get (nodes number) ≡ over root (map made (all_placed number))
 unfolding changes_to
-begun_get number = get-over_nodes root_only (map made (placed number)) ∙ ap (λ S. over S (map made (placed number))) root_is
+begun_get number = get-over_nodes root_only (map made (all_placed number)) ∙ ap (λ S. over S (map made (all_placed number))) root_is
 
 module _ (number : ℕ) where
   abbrev S : Store
-  S = over root (map made (placed number))
+  S = over root (map made (all_placed number))
 
   listing : S (codes "config" ∷ []) ≡ Some (File config false)
   listing = refl

@@ -10,11 +10,11 @@ use Rattle.fx_inputs.specs.Inputs.{HasBase}
 use Rattle.fx_durable.specs.Disk.{File, DiskView}
 use Rattle.fx_durable.specs.Journal.{Spells}
 use Rattle.fx_journaling.specs.Kept.{SpellsLegal, SpellsFront}
-use Rattle.fx_recover_command.specs.Recovered.{IsOutcome, recovered_line}
+use Rattle.fx_recover_command.specs.Recovered.{IsRecoveryOutcome, recovered_line}
 use Rattle.fx_laws_above.specs.Recovering.{IsAfter, GivesTold, RecoversTold, RecoversFront}
 
 -- the outcome of a file that spells this order of this base is that after the order
-after : (t : Tree) (j : RecoverJob) (disk : DiskView) (base : BaseTree) (order : List Turn) (file : File) (nodes : Nodes) (output : List ℕ) → HasBase t j.inputs base → disk.told ≡ Some file → Spells order file.seen → IsOutcome t j disk nodes output → IsAfter base order nodes output
+after : (t : Tree) (j : RecoverJob) (disk : DiskView) (base : BaseTree) (order : List Turn) (file : File) (nodes : Nodes) (output : List ℕ) → HasBase t j.inputs base → disk.told ≡ Some file → Spells order file.seen → IsRecoveryOutcome t j disk nodes output → IsAfter base order nodes output
 after t j disk base order file nodes output begins told spells outcome =
     let image = subst (λ o. IfSome o (λ file. (file.path ≡ j.journal) × Spells outcome.order file.seen)) told outcome.read.spelled in
     let same_base : base ≡ outcome.base = outcome.read.only base begins in

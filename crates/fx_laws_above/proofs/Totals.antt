@@ -26,8 +26,8 @@ use Rattle.fx_gen.specs.Scripts.{kind_of, project_of, counting_of, logging_of}
 use Rattle.fx_gen.proofs.Ranges.{counting_rest}
 use Rattle.fx_gen_laws.specs.Trees.{description_tree, txn_tree, script_tree}
 use Rattle.fx_large.specs.Base.{generated_base, plan_to}
-use Rattle.fx_large.specs.Summary.{is_done, done_of, integer_or_zero, counted_at, logged_at, counted_to, logged_to, nodes_in, lines, summary}
-use Rattle.fx_laws_above.specs.Totals.{counts, logs, five_lines, last, SumsUp, LargeTellsTheSame}
+use Rattle.fx_large.specs.Summary.{is_done, done_of, integer_or_zero, counted_at, logged_at, counted_to, logged_to, node_count, lines, summary}
+use Rattle.fx_laws_above.specs.Totals.{counting_total, logs, five_lines, last_generated, SumsUp, LargeTellsTheSame}
 use Rattle.fx_laws_above.proofs.Generated.{begins}
 use Rattle.fx_laws_above.proofs.Counting.{IsOne, number_of, each_is_one, each_once, counted_once, has_1600}
 use Rattle.fx_laws_above.proofs.Reading.{read_decimal}
@@ -172,16 +172,16 @@ module _ (number : ℕ) where
     logging_all : count_by (is_logging number) o ≡ logs number
     logging_all = counted_once base o complete eight no_more (logs_at number) ∙ logging_sum 1600
 
-    counting_all : count_by (is_counting number) o ≡ counts number
+    counting_all : count_by (is_counting number) o ≡ counting_total number
     counting_all = counted_once base o complete eight no_more (λ t. not (logs_at number t)) ∙ counting_sum 1600
 
-    counted : counted_to end_state 16 ≡ pos (counts number)
+    counted : counted_to end_state 16 ≡ pos (counting_total number)
     counted = counted_is 16 (omega arith) ∙ ap pos (at_end.counted ∙ counting_all)
 
     logged : logged_to end_state 16 ≡ logs number
     logged = logged_is 16 (omega arith) ∙ at_end.logged ∙ logging_all
 
-    sized : nodes_in end_state ≡ 195 + logs number
+    sized : node_count end_state ≡ 195 + logs number
     sized = sym (len-entries end_state) ∙ at_end.size ∙ ap (λ n. 195 + n) logging_all
 
     sums_up : SumsUp number o
@@ -193,9 +193,9 @@ module _ (number : ℕ) where
       logged = logged;
       nodes = sized;
       printed = ap (λ n. lines n (done_of base o) end_state) long ∙ ap (λ n. lines 1600 n end_state) all_done
-          ∙ ap (λ z. codes "transactions 1600\ndone 1600\ncounted " ++ signed_decimal z ++ codes "\nlogged " ++ decimal (logged_to end_state 16) ++ codes "\nnodes " ++ decimal (nodes_in end_state) ++ codes "\n") counted
-          ∙ ap (λ n. codes "transactions 1600\ndone 1600\ncounted " ++ decimal (counts number) ++ codes "\nlogged " ++ decimal n ++ codes "\nnodes " ++ decimal (nodes_in end_state) ++ codes "\n") logged
-          ∙ ap (λ n. codes "transactions 1600\ndone 1600\ncounted " ++ decimal (counts number) ++ codes "\nlogged " ++ decimal (logs number) ++ codes "\nnodes " ++ decimal n ++ codes "\n") sized;
+          ∙ ap (λ z. codes "transactions 1600\ndone 1600\ncounted " ++ signed_decimal z ++ codes "\nlogged " ++ decimal (logged_to end_state 16) ++ codes "\nnodes " ++ decimal (node_count end_state) ++ codes "\n") counted
+          ∙ ap (λ n. codes "transactions 1600\ndone 1600\ncounted " ++ decimal (counting_total number) ++ codes "\nlogged " ++ decimal n ++ codes "\nnodes " ++ decimal (node_count end_state) ++ codes "\n") logged
+          ∙ ap (λ n. codes "transactions 1600\ndone 1600\ncounted " ++ decimal (counting_total number) ++ codes "\nlogged " ++ decimal (logs number) ++ codes "\nnodes " ++ decimal n ++ codes "\n") sized;
     }
 
 pub large_tells_the_same : LargeTellsTheSame

@@ -9,7 +9,7 @@ use Rattle.fx_read_report.specs.Form.{AreFormEntries, AreFormRetries, ArePrinted
 use Rattle.fx_read_report.specs.Values.{IsPrinted}
 use Rattle.fx_read_report.specs.declared.values.TheConstants.{VALUE_LEVELS}
 use Rattle.fx_read_report.specs.Lines.{Line, IsLine, head, entries, entry, print, retries, retry, final, entry_lines}
-use Rattle.fx_read_report.specs.Stages.{IsState, State, advanced, allows, entered, lines_in, printed}
+use Rattle.fx_read_report.specs.Stages.{IsState, State, advanced, allows, entry_begun, lines_of_state, with_last_output}
 use Rattle.fx_read_report.specs.declared.reading.Stage.{Stage}
 use Rattle.fx_read_report.specs.declared.reading.Stage.TheVariants as stage
 use Rattle.fx_read_report.proofs.Running.{at}
@@ -26,12 +26,12 @@ values_push : (vs : List Tree) (v : Tree) → ArePrinted vs → IsPrinted VALUE_
 values_push [] v p q = (q, tt)
 values_push (w ∷ vs) v p q = (p.0, values_push vs v p.1 q)
 
-printed_form : (es : List PrintedEntry) (v : Tree) → AreFormEntries es → IsPrinted VALUE_LEVELS v → AreFormEntries (printed es v)
+printed_form : (es : List PrintedEntry) (v : Tree) → AreFormEntries es → IsPrinted VALUE_LEVELS v → AreFormEntries (with_last_output es v)
 printed_form [] v p q = tt
 printed_form (e ∷ []) v p q = (record { shell = p.0.shell; txn = p.0.txn; outputs = values_push e.outputs v p.0.outputs q; ended = p.0.ended }, tt)
 printed_form (e ∷ f ∷ es) v p q = (p.0, printed_form (f ∷ es) v p.1 q)
 
-printed_length : (es : List PrintedEntry) (v : Tree) → length (printed es v) ≡ length es
+printed_length : (es : List PrintedEntry) (v : Tree) → length (with_last_output es v) ≡ length es
 printed_length [] v = refl
 printed_length (e ∷ []) v = refl
 printed_length (e ∷ f ∷ es) v = ap suc (printed_length (f ∷ es) v)
@@ -49,7 +49,7 @@ map_push : {A : Type 0} (f : A → Line) (xs : List A) (x : A) → map f (xs ++ 
 map_push f [] x = refl
 map_push f (y ∷ xs) x = ap (λ t. f y ∷ t) (map_push f xs x)
 
-lines_printed : (i : ℕ) (es : List PrintedEntry) (v : Tree) → 0 < length es → entry_lines i (printed es v) ≡ entry_lines i es ++ print v ∷ []
+lines_printed : (i : ℕ) (es : List PrintedEntry) (v : Tree) → 0 < length es → entry_lines i (with_last_output es v) ≡ entry_lines i es ++ print v ∷ []
 lines_printed i [] v some = absurd (omega arith)
 lines_printed i (e ∷ []) v some =
     ap (λ t. entry i e.shell e.txn e.end ∷ t) (append-nil (map print (e.outputs ++ v ∷ [])) ∙ (map_push print e.outputs v ∙ ap (λ t. t ++ print v ∷ []) (sym (append-nil (map print e.outputs)))))
@@ -58,7 +58,7 @@ lines_printed i (e ∷ f ∷ es) v some =
 
 pub record Steps (s : State) (l : Line) : Type 0 where
   pub is : IsState (advanced s l)
-  pub lines : lines_in (advanced s l) ≡ lines_in s ++ l ∷ []
+  pub lines : lines_of_state (advanced s l) ≡ lines_of_state s ++ l ∷ []
 
 none_long : {A : Type 0} (xs : List A) (n : ℕ) → xs ≡ [] → length xs ≤ n
 none_long xs n e = let size = ap length e in omega (arith, size)
@@ -67,13 +67,13 @@ enter : (n : ℕ) (es : List PrintedEntry) (rs : List Retry) (i k j : ℕ) (e : 
 enter n es rs i k j e is line number few =
     record {
       is = record {
-        entries_form = forms_push es (entered k j e) is.entries_form (record { shell = line.1; txn = line.2; outputs = tt; ended = line.3 });
+        entries_form = forms_push es (entry_begun k j e) is.entries_form (record { shell = line.1; txn = line.2; outputs = tt; ended = line.3 });
         retries_form = is.retries_form;
-        fits = (let size = length-append es (entered k j e ∷ []) in omega (arith, size, few), is.fits.1, is.fits.2);
+        fits = (let size = length-append es (entry_begun k j e ∷ []) in omega (arith, size, few), is.fits.1, is.fits.2);
       };
       lines =
           let same : 0 + length es ≡ i = omega (arith, number) in
-          ap (λ t. head ∷ entries n ∷ t) (lines_push 0 es (entered k j e) refl ∙ ap (λ m. entry_lines 0 es ++ entry m k j e ∷ []) same);
+          ap (λ t. head ∷ entries n ∷ t) (lines_push 0 es (entry_begun k j e) refl ∙ ap (λ m. entry_lines 0 es ++ entry m k j e ∷ []) same);
     }
 
 steps_at : (g : Stage) (es : List PrintedEntry) (rs : List Retry) (l : Line) → IsState (at g es rs) → IsLine l → allows g (length es) (length rs) l ≡ true → Steps (at g es rs) l

@@ -6,9 +6,9 @@ use Rattle.fx_spec.specs.declared.refusal.End.TheVariants as end
 use Rattle.fx_machine.specs.declared.retry.Retry.{Retry}
 use Rattle.fx_report.specs.declared.printed.PrintedEntry.{PrintedEntry}
 use Rattle.fx_store.specs.Names.{IsName, IsPath}
-use Rattle.fx_read_report.specs.Form.{IsForm}
+use Rattle.fx_read_report.specs.Form.{IsReportForm}
 use Rattle.fx_read_report.specs.Lines.{IsLine, Line, head, entries, entry, retries, retry, final, report_lines}
-use Rattle.fx_read_report.specs.Stages.{IsState, State, advanced, entered, lines_in, may_follow}
+use Rattle.fx_read_report.specs.Stages.{IsState, State, advanced, entry_begun, lines_of_state, may_follow}
 use Rattle.fx_read_report.specs.declared.reading.Stage.{Stage}
 use Rattle.fx_read_report.specs.declared.reading.Stage.TheVariants as stage
 use Rattle.fx_read_report.proofs.Advances.{steps}
@@ -19,15 +19,15 @@ pub record Completed (s : State) : Type 0 where
   pub entries : List PrintedEntry
   pub retries : List Retry
   pub more : List Line
-  pub form : IsForm entries retries
-  pub lines : report_lines entries retries ≡ lines_in s ++ more
+  pub form : IsReportForm entries retries
+  pub lines : report_lines entries retries ≡ lines_of_state s ++ more
 
 -- by a line that may follow, and what completes the report behind it
 through : (s : State) (l : Line) → IsState s → IsLine l → may_follow s l ≡ true → (IsState (advanced s l) → Completed (advanced s l)) → Completed s
 through s l is line ok later =
     let step = steps s l is line ok in
     let c = later step.is in
-    record { entries = c.entries; retries = c.retries; more = l ∷ c.more; form = c.form; lines = c.lines ∙ (ap (λ t. t ++ c.more) step.lines ∙ append_assoc (lines_in s) (l ∷ []) c.more) }
+    record { entries = c.entries; retries = c.retries; more = l ∷ c.more; form = c.form; lines = c.lines ∙ (ap (λ t. t ++ c.more) step.lines ∙ append_assoc (lines_of_state s) (l ∷ []) c.more) }
 
 abbrev blank_retry : Retry
 blank_retry = record { shell = 0; txn = 0; entry = 0; path = [] }
@@ -59,7 +59,7 @@ after_entries zero n es rs e is =
     no_more : (rs : List Retry) → rs ≡ [] → length rs < 2 ^ 64
     no_more rs none = let size = ap length none in omega (arith, size)
 after_entries (suc k) n es rs e is =
-    let blank = entered 0 0 end.Done in
+    let blank = entry_begun 0 0 end.Done in
     let size = length-append es (blank ∷ []) in
     through (at (stage.Entries n) es rs) (entry (length es) 0 0 end.Done) is (omega (arith, e, is.fits.1), lit< tt, lit< tt, tt)
     (and_from (nat_eq (length es) (length es)) (nat_lt (length es) n) (eq-eqb (length es) (length es) refl) (lt-ltb (length es) n (omega (arith, e))))

@@ -18,7 +18,7 @@ use Rattle.fx_read_report.specs.Kinds.{kind_of}
 use Rattle.fx_read_report.specs.declared.lines.Kind.{Kind}
 use Rattle.fx_read_report.specs.declared.lines.Kind.TheVariants as kind
 use Rattle.fx_read_report.specs.Lines.{FindsLine, IsLine, Line, head, entries, entry, print, retries, retry, final, line_text}
-use Rattle.fx_read_report.specs.Reads.{end_at, entries_at, entry_at, field_at, final_at, head_at, line_at, line_by, path_at, print_at, retries_at, retry_at, small_at}
+use Rattle.fx_read_report.specs.Reads.{end_at, entries_at, entry_at, field_at, final_at, head_at, only_line, line_by, path_at, print_at, retries_at, retry_at, small_at}
 use Rattle.fx_read_report.proofs.Digits.{after_read}
 use Rattle.fx_read_report.proofs.PartLaws.{IsEndIn, IsPathIn, end_read, field_read, last_read, path_read, small_read, strict_end, strict_path}
 use Rattle.fx_read_report.proofs.ValueLoops.{ascends_of}
@@ -142,13 +142,13 @@ of_kind m levels (retries n) p = ap (option_map retries) (last_read (codes "retr
 of_kind m levels (retry r) p = retry_read m r p
 of_kind m levels final p = refl
 
-line_read : (m : Limits) (levels : ℕ) (l : Line) → IsLineIn m levels l → line_at m levels (line_text l) ≡ Some l
+line_read : (m : Limits) (levels : ℕ) (l : Line) → IsLineIn m levels l → only_line m levels (line_text l) ≡ Some l
 line_read m levels l p = ap (λ k. line_by m levels k (line_text l)) (line_kind l) ∙ of_kind m levels l p
 
 -- the text of a line tells the line
 pub one_line_in : (m : Limits) (levels : ℕ) (l k : Line) → IsLineIn m levels l → IsLineIn m levels k → line_text l ≡ line_text k → l ≡ k
 one_line_in m levels l k p q e =
-    let same : Some l ≡ Some k = sym (line_read m levels l p) ∙ (ap (line_at m levels) e ∙ line_read m levels k q) in
+    let same : Some l ≡ Some k = sym (line_read m levels l p) ∙ (ap (only_line m levels) e ∙ line_read m levels k q) in
     cc
 
 -- ---- the lines of the form
@@ -193,16 +193,16 @@ one_line l k p q e = one_line_in strict VALUE_LEVELS l k (strict_line l p) (stri
 
 -- ---- what is read, printed again
 
-told : (text : List ℕ) (l : Line) → IsLine l → text ≡ line_text l → line_at strict VALUE_LEVELS text ≡ Some l
-told text l p e = ap (line_at strict VALUE_LEVELS) e ∙ line_read strict VALUE_LEVELS l (strict_line l p)
+told : (text : List ℕ) (l : Line) → IsLine l → text ≡ line_text l → only_line strict VALUE_LEVELS text ≡ Some l
+told text l p e = ap (only_line strict VALUE_LEVELS) e ∙ line_read strict VALUE_LEVELS l (strict_line l p)
 
-pub found_none : (text : List ℕ) → None ≡ line_at strict VALUE_LEVELS text → FindsLine text None
+pub found_none : (text : List ℕ) → None ≡ only_line strict VALUE_LEVELS text → FindsLine text None
 found_none text none l p e = let wrong : None ≡ Some l = none ∙ told text l p e in absurd (cc)
 
 pub found_same : (text : List ℕ) (l : Line) (b : Bool) → IsLine l → b ≡ bytes_eq (line_text l) text → b ≡ true → FindsLine text (Some l)
 found_same text l b is e t = (is, sym ((bytes_decides (line_text l) text).0 (sym e ∙ t)))
 
-pub found_other : (text : List ℕ) (l : Line) (b : Bool) → Some l ≡ line_at strict VALUE_LEVELS text → b ≡ bytes_eq (line_text l) text → b ≡ false → FindsLine text None
+pub found_other : (text : List ℕ) (l : Line) (b : Bool) → Some l ≡ only_line strict VALUE_LEVELS text → b ≡ bytes_eq (line_text l) text → b ≡ false → FindsLine text None
 found_other text l b found e f k p s =
     let same : Some l ≡ Some k = found ∙ told text k p s in
     let is : l ≡ k = cc in

@@ -7,19 +7,19 @@ use Rattle.fx_expr.specs.Tree.{Tree}
 use Rattle.fx_report.specs.declared.printed.PrintedEntry.{PrintedEntry}
 use Rattle.fx_read_report.specs.Feeds.{IsFeedAt}
 use Rattle.fx_read_report.specs.Form.{LacksFeed}
-use Rattle.fx_read_report.specs.Stages.{printed}
+use Rattle.fx_read_report.specs.Stages.{with_last_output}
 
 abbrev pub with_output : PrintedEntry → Tree → PrintedEntry
 with_output e v = record { shell = e.shell; txn = e.txn; outputs = e.outputs ++ v ∷ []; end = e.end }
 
-pub printed_last : (xs : List PrintedEntry) (e : PrintedEntry) (v : Tree) → printed (xs ++ e ∷ []) v ≡ xs ++ with_output e v ∷ []
+pub printed_last : (xs : List PrintedEntry) (e : PrintedEntry) (v : Tree) → with_last_output (xs ++ e ∷ []) v ≡ xs ++ with_output e v ∷ []
 printed_last [] e v = refl
 printed_last (x ∷ []) e v = refl
 printed_last (x ∷ y ∷ xs) e v = ap (λ t. x ∷ t) (printed_last (y ∷ xs) e v)
 
-pub printed_is : (old xs new : List PrintedEntry) (e : PrintedEntry) (outputs : List Tree) (v : Tree) → old ≡ xs ++ e ∷ [] → outputs ≡ e.outputs ++ v ∷ [] → new ≡ xs ++ record { shell = e.shell; txn = e.txn; outputs = outputs; end = e.end } ∷ [] → new ≡ printed old v
+pub printed_is : (old xs new : List PrintedEntry) (e : PrintedEntry) (outputs : List Tree) (v : Tree) → old ≡ xs ++ e ∷ [] → outputs ≡ e.outputs ++ v ∷ [] → new ≡ xs ++ record { shell = e.shell; txn = e.txn; outputs = outputs; end = e.end } ∷ [] → new ≡ with_last_output old v
 printed_is old xs new e outputs v was is made =
-    made ∙ (ap (λ (o : List Tree). xs ++ record { shell = e.shell; txn = e.txn; outputs = o; end = e.end } ∷ []) is ∙ (sym (printed_last xs e v) ∙ ap (λ l. printed l v) (sym was)))
+    made ∙ (ap (λ (o : List Tree). xs ++ record { shell = e.shell; txn = e.txn; outputs = o; end = e.end } ∷ []) is ∙ (sym (printed_last xs e v) ∙ ap (λ l. with_last_output l v) (sym was)))
 
 -- feeds
 

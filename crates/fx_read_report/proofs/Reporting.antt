@@ -6,9 +6,9 @@ use Rattle.fx_machine.specs.declared.retry.Retry.{Retry}
 use Rattle.fx_report.specs.declared.printed.PrintedEntry.{PrintedEntry}
 use Rattle.fx_report.specs.Report.{line}
 use Rattle.fx_read_report.specs.Feeds.{IsFeedAt}
-use Rattle.fx_read_report.specs.Form.{AllLackFeed, BeginsReport, IsFirstBadLine, IsReportOf, LacksFeed}
+use Rattle.fx_read_report.specs.Form.{AllLackFeed, BeginsReport, IsFirstWrongLine, IsReportOf, LacksFeed}
 use Rattle.fx_read_report.specs.Lines.{Line, IsLine, entries, retries, line_text, report_lines}
-use Rattle.fx_read_report.specs.Stages.{IsState, State, TakesText, is_ended, lines_at, lines_in, start}
+use Rattle.fx_read_report.specs.Stages.{IsState, State, TakesText, is_ended, lines_at, lines_of_state, start_state}
 use Rattle.fx_read_report.specs.declared.reading.Stage.{Stage}
 use Rattle.fx_read_report.specs.declared.reading.Stage.TheVariants as stage
 use Rattle.fx_read_report.proofs.Completes.{completed}
@@ -20,12 +20,12 @@ use Rattle.fx_read_report.proofs.Texts.{AreAll, first_line, front_of, line_form,
 -- what was read so far, and the number of the next line
 pub record Reached (bytes : List ℕ) (s : State) (x : List ℕ) (number : ℕ) : Type 0 where
   pub is : IsState s
-  pub lines : AreAll IsLine (lines_in s)
-  pub parts : bytes ≡ text_of (lines_in s) ++ x
-  pub count : number ≡ length (lines_in s) + 1
+  pub lines : AreAll IsLine (lines_of_state s)
+  pub parts : bytes ≡ text_of (lines_of_state s) ++ x
+  pub count : number ≡ length (lines_of_state s) + 1
   pub room : number + length x ≤ length bytes + 1
 
-pub reached_none : (bytes : List ℕ) (s : State) → s ≡ start → Reached bytes s bytes 1
+pub reached_none : (bytes : List ℕ) (s : State) → s ≡ start_state → Reached bytes s bytes 1
 reached_none bytes s e =
     subst (λ (t : State). Reached bytes t bytes 1) (sym e)
     (record { is = record { entries_form = tt; retries_form = tt; fits = (refl, refl) }; lines = tt; parts = refl; count = refl; room = omega arith })
@@ -36,20 +36,20 @@ reached_next bytes s t x number i r f taken =
     let y = drop (i + 1) x in
     let ends : x ≡ line (line_text l) ++ y = f.parts ∙ (ap (λ u. u ++ 10 ∷ y) taken.2 ∙ sym (line_form (line_text l) y)) in
     let grown = taken.4 in
-    let whole : text_of (lines_in t) ≡ text_of (lines_in s) ++ line (line_text l) = ap text_of grown ∙ (text_append (lines_in s) (l ∷ []) ∙ ap (λ u. text_of (lines_in s) ++ u) (append-nil (line (line_text l)))) in
+    let whole : text_of (lines_of_state t) ≡ text_of (lines_of_state s) ++ line (line_text l) = ap text_of grown ∙ (text_append (lines_of_state s) (l ∷ []) ∙ ap (λ u. text_of (lines_of_state s) ++ u) (append-nil (line (line_text l)))) in
     record {
       is = taken.3;
-      lines = subst (AreAll IsLine) (sym grown) (lines_join IsLine (lines_in s) (l ∷ []) r.lines (taken.1, tt));
-      parts = r.parts ∙ (ap (λ u. text_of (lines_in s) ++ u) ends ∙ (sym (append_assoc (text_of (lines_in s)) (line (line_text l)) y) ∙ ap (λ u. u ++ y) (sym whole)));
-      count = (let more = ap length grown in let size = length-append (lines_in s) (l ∷ []) in let was = r.count in omega (arith, more, size, was));
+      lines = subst (AreAll IsLine) (sym grown) (lines_join IsLine (lines_of_state s) (l ∷ []) r.lines (taken.1, tt));
+      parts = r.parts ∙ (ap (λ u. text_of (lines_of_state s) ++ u) ends ∙ (sym (append_assoc (text_of (lines_of_state s)) (line (line_text l)) y) ∙ ap (λ u. u ++ y) (sym whole)));
+      count = (let more = ap length grown in let size = length-append (lines_of_state s) (l ∷ []) in let was = r.count in omega (arith, more, size, was));
       room = (let cut = ap length f.parts in let size = length-append (take i x) (10 ∷ y) in let was = r.room in omega (arith, cut, size, was));
     }
 
 abbrev pub Stuck : State → List ℕ → Type 0
-Stuck s x = (u : Line) (y : List ℕ) (fs : List PrintedEntry) (ss : List Retry) (more : List Line) → IsLine u → x ≡ line_text u ++ 10 ∷ y → report_lines fs ss ≡ lines_in s ++ u ∷ more → ⊥
+Stuck s x = (u : Line) (y : List ℕ) (fs : List PrintedEntry) (ss : List Retry) (more : List Line) → IsLine u → x ≡ line_text u ++ 10 ∷ y → report_lines fs ss ≡ lines_of_state s ++ u ∷ more → ⊥
 
 abbrev pub NoEnd : State → List ℕ → Type 0
-NoEnd s x = x ≡ [] → (fs : List PrintedEntry) (ss : List Retry) → report_lines fs ss ≡ lines_in s → ⊥
+NoEnd s x = x ≡ [] → (fs : List PrintedEntry) (ss : List Retry) → report_lines fs ss ≡ lines_of_state s → ⊥
 
 texts_lack : (ls : List Line) → AllLackFeed (map line_text ls)
 texts_lack [] = tt
@@ -88,14 +88,14 @@ longer (l ∷ ls) (k ∷ ks) x y p q e n =
 begins : (bytes : List ℕ) (s : State) (x : List ℕ) (number k : ℕ) → Reached bytes s x number → k < number → BeginsReport bytes k
 begins bytes s x number k r less =
     let c = completed s r.is in
-    let ls = take k (lines_in s) in
-    let ms = drop k (lines_in s) in
-    let split = take-append-drop k (lines_in s) in
+    let ls = take k (lines_of_state s) in
+    let ms = drop k (lines_of_state s) in
+    let split = take-append-drop k (lines_of_state s) in
     record {
       lines = map line_text ls;
       rest = text_of ms ++ x;
       parts = r.parts ∙ (ap (λ l. text_of l ++ x) (sym split) ∙ (ap (λ t. t ++ x) (text_append ls ms) ∙ (append_assoc (text_of ls) (text_of ms) x ∙ ap (λ t. t ++ (text_of ms ++ x)) (sym (texts_of ls)))));
-      count = (let size = length-map ls line_text in let few : k ≤ length (lines_in s) = (let was = r.count in omega (arith, was, less)) in let cut = length-take-le k (lines_in s) few in size ∙ cut);
+      count = (let size = length-map ls line_text in let few : k ≤ length (lines_of_state s) = (let was = r.count in omega (arith, was, less)) in let cut = length-take-le k (lines_of_state s) few in size ∙ cut);
       whole = texts_lack ls;
       entries = c.entries;
       retries = c.retries;
@@ -109,20 +109,20 @@ begins bytes s x number k r less =
 
 no_report : (bytes : List ℕ) (s : State) (x : List ℕ) (number : ℕ) → Reached bytes s x number → Stuck s x → NoEnd s x → (fs : List PrintedEntry) (ss : List Retry) → IsReportOf bytes fs ss → ⊥
 no_report bytes s x number r stuck no_end fs ss is =
-    let ls = lines_in s in
+    let ls = lines_of_state s in
     let ks = report_lines fs ss in
     let are = report_lines_are fs ss is.form in
     let front = front_of (map line_text ls) ks x (texts_lack ls) (ap (λ t. t ++ x) (texts_of ls) ∙ (sym r.parts ∙ (is.spelled ∙ report_is fs ss))) in
     let same = same_lines front.taken ls (lines_left front.taken front.more (subst (AreAll IsLine) front.whole are)) r.lines front.texts in
     ends front.more (front.whole ∙ ap (λ t. t ++ front.more) same) front.left (lines_right front.taken front.more (subst (AreAll IsLine) front.whole are))
   where
-    ends : (more : List Line) → report_lines fs ss ≡ lines_in s ++ more → x ≡ text_of more → AreAll IsLine more → ⊥
-    ends [] e f p = no_end f fs ss (e ∙ append-nil (lines_in s))
+    ends : (more : List Line) → report_lines fs ss ≡ lines_of_state s ++ more → x ≡ text_of more → AreAll IsLine more → ⊥
+    ends [] e f p = no_end f fs ss (e ∙ append-nil (lines_of_state s))
     ends (u ∷ more) e f p = stuck u (text_of more) fs ss more p.0 (f ∙ line_form (line_text u) (text_of more)) e
 
 stops : (bytes : List ℕ) (s : State) (x : List ℕ) (number : ℕ) → Reached bytes s x number → Stuck s x → BeginsReport bytes number → ⊥
 stops bytes s x number r stuck b =
-    let ls = lines_in s in
+    let ls = lines_of_state s in
     let ks = report_lines b.entries b.retries in
     let are = report_lines_are b.entries b.retries b.report.form in
     let front = front_of b.lines ks b.later b.whole (b.report.spelled ∙ report_is b.entries b.retries) in
@@ -134,7 +134,7 @@ stops bytes s x number r stuck b =
     stuck next.next b.rest b.entries b.retries front.more next.is next.parts
     (front.whole ∙ (ap (λ t. t ++ front.more) next.whole ∙ append_assoc ls (next.next ∷ []) front.more))
 
-pub first_bad : (bytes : List ℕ) (s : State) (x : List ℕ) (number : ℕ) → Reached bytes s x number → Stuck s x → NoEnd s x → IsFirstBadLine bytes number
+pub first_bad : (bytes : List ℕ) (s : State) (x : List ℕ) (number : ℕ) → Reached bytes s x number → Stuck s x → NoEnd s x → IsFirstWrongLine bytes number
 first_bad bytes s x number r stuck no_end =
     record {
       none = no_report bytes s x number r stuck no_end;
@@ -147,7 +147,7 @@ first_bad bytes s x number r stuck no_end =
 
 -- a line that is not taken
 
-pub bad_text : (bytes : List ℕ) (s t : State) (x : List ℕ) (number i : ℕ) → Reached bytes s x number → IsFeedAt x i → TakesText s (take i x) t false → IsFirstBadLine bytes number
+pub bad_text : (bytes : List ℕ) (s t : State) (x : List ℕ) (number i : ℕ) → Reached bytes s x number → IsFeedAt x i → TakesText s (take i x) t false → IsFirstWrongLine bytes number
 bad_text bytes s t x number i r f refused =
     first_bad bytes s x number r
     (λ u y fs ss more is parts e. refused u is (same_line (take i x) (line_text u) (drop (i + 1) x) y f.before (line_lacks u) (sym f.parts ∙ parts)).0 fs ss more e)
@@ -165,7 +165,7 @@ no_feed s x p u y fs ss more is parts e = has_feed (line_text u) y (subst LacksF
 pub reached_more : (bytes : List ℕ) (s t : State) (x y : List ℕ) (number i : ℕ) → Reached bytes s x number → IsFeedAt x i → TakesText s (take i x) t true → y ≡ drop (i + 1) x → Reached bytes t y (number + 1)
 reached_more bytes s t x y number i r f taken e = subst (λ (z : List ℕ). Reached bytes t z (number + 1)) (sym e) (reached_next bytes s t x number i r f taken)
 
-pub bad_end : (bytes : List ℕ) (s : State) (x : List ℕ) (number : ℕ) → Reached bytes s x number → LacksFeed x → (x ≡ [] → ⊥) → IsFirstBadLine bytes number
+pub bad_end : (bytes : List ℕ) (s : State) (x : List ℕ) (number : ℕ) → Reached bytes s x number → LacksFeed x → (x ≡ [] → ⊥) → IsFirstWrongLine bytes number
 bad_end bytes s x number r p some = first_bad bytes s x number r (no_feed s x p) (λ none fs ss e. absurd (some none))
 
 -- a line that is missing
@@ -173,7 +173,7 @@ bad_end bytes s x number r p some = first_bad bytes s x number r (no_feed s x p)
 still_open : (g : Stage) → is_ended g ≡ false → g ≡ stage.Ended → ⊥
 still_open g open_ e = let wrong : true ≡ false = ap is_ended (sym e) ∙ open_ in absurd (cc)
 
-pub bad_rest : (bytes : List ℕ) (s : State) (x : List ℕ) (number : ℕ) → Reached bytes s x number → LacksFeed x → is_ended s.stage ≡ false → IsFirstBadLine bytes number
+pub bad_rest : (bytes : List ℕ) (s : State) (x : List ℕ) (number : ℕ) → Reached bytes s x number → LacksFeed x → is_ended s.stage ≡ false → IsFirstWrongLine bytes number
 bad_rest bytes s x number r p open_ =
     first_bad bytes s x number r (no_feed s x p) (λ none fs ss e. still_open s.stage open_ (ap (λ (t : State). t.stage) (lines_end s fs ss r.is e)))
 
@@ -192,7 +192,7 @@ ended_is stage.Ended es rs bytes e is p =
 
 pub whole_report : (bytes : List ℕ) (s : State) (x : List ℕ) (number : ℕ) → Reached bytes s x number → x ≡ [] → is_ended s.stage ≡ true → IsReportOf bytes s.entries s.retries
 whole_report bytes s x number r none ended =
-    ended_is s.stage s.entries s.retries bytes ended r.is (r.parts ∙ (ap (λ t. text_of (lines_in s) ++ t) none ∙ append-nil (text_of (lines_in s))))
+    ended_is s.stage s.entries s.retries bytes ended r.is (r.parts ∙ (ap (λ t. text_of (lines_of_state s) ++ t) none ∙ append-nil (text_of (lines_of_state s))))
 
 pub read_as : (bytes : List ℕ) (es fs : List PrintedEntry) (rs ss : List Retry) → IsReportOf bytes es rs → fs ≡ es → ss ≡ rs → IsReportOf bytes fs ss
 read_as bytes es fs rs ss is e r =

@@ -6,7 +6,7 @@ use Rattle.fx_expr.specs.Tree.{Tree}
 use Rattle.fx_machine.specs.declared.retry.Retry.{Retry}
 use Rattle.fx_report.specs.declared.printed.PrintedEntry.{PrintedEntry}
 use Rattle.fx_read_report.specs.Lines.{Line, head, entries, entry, print, retries, retry, final, entry_lines, report_lines}
-use Rattle.fx_read_report.specs.Stages.{Fits, IsState, State, allows, advanced, entered, lines_at, lines_in, next, start}
+use Rattle.fx_read_report.specs.Stages.{Fits, IsState, State, allows, advanced, entry_begun, lines_at, lines_of_state, with_line, start_state}
 use Rattle.fx_read_report.specs.declared.reading.Stage.{Stage}
 use Rattle.fx_read_report.specs.declared.reading.Stage.TheVariants as stage
 use Rattle.fx_read_report.proofs.Machine.{run, no_next}
@@ -16,7 +16,7 @@ abbrev pub at : Stage → List PrintedEntry → List Retry → State
 at g es rs = record { stage = g; entries = es; retries = rs }
 
 abbrev ran : State → List Line → Option State
-ran = run next
+ran = run with_line
 
 -- the next line is taken
 goes : (s t : State) (l : Line) (ls : List Line) → allows s.stage (length s.entries) (length s.retries) l ≡ true → advanced s l ≡ t → ran s (l ∷ ls) ≡ ran t ls
@@ -40,7 +40,7 @@ entries_run : (n : ℕ) (fs es : List PrintedEntry) (i : ℕ) (ls : List Line) �
 entries_run n fs [] i ls e few = ap (λ (gs : List PrintedEntry). ran (at (stage.Entries n) gs []) ls) (sym (append-nil fs))
 entries_run n fs (d ∷ es) i ls e few =
     let s = at (stage.Entries n) fs [] in
-    let first = entered d.shell d.txn d.end in
+    let first = entry_begun d.shell d.txn d.end in
     let later = entry_lines (i + 1) es ++ ls in
     let size = length-append fs (d ∷ []) in
     goes s (at (stage.Entries n) (fs ++ first ∷ []) []) (entry i d.shell d.txn d.end) ((map print d.outputs ++ entry_lines (i + 1) es) ++ ls) (and_from (nat_eq i (length fs)) (nat_lt (length fs) n) (eq-eqb i (length fs) e) (lt-ltb (length fs) n (omega (arith, e, few)))) refl
@@ -58,7 +58,7 @@ retries_run n es qs (r ∷ rs) ls few =
     ∙ ap (λ (gs : List Retry). ran (at (stage.Retries n) es gs) ls) (append_assoc qs (r ∷ []) rs))
 
 -- up to the count of retries
-counted : (es : List PrintedEntry) (m : ℕ) (ls : List Line) → ran start (head ∷ entries (length es) ∷ (entry_lines 0 es ++ retries m ∷ ls)) ≡ ran (at (stage.Retries m) es []) ls
+counted : (es : List PrintedEntry) (m : ℕ) (ls : List Line) → ran start_state (head ∷ entries (length es) ∷ (entry_lines 0 es ++ retries m ∷ ls)) ≡ ran (at (stage.Retries m) es []) ls
 counted es m ls =
     let n = length es in
     entries_run n [] es 0 (retries m ∷ ls) refl (omega arith)
@@ -79,7 +79,7 @@ fits_counted (stage.Entries n) es rs f = (f.0, f.2)
 fits_counted (stage.Retries n) es rs f = f.1
 fits_counted stage.Ended es rs f = tt
 
-runs_at : (g : Stage) (es : List PrintedEntry) (rs : List Retry) → Counted g es rs → ran start (lines_at g es rs) ≡ Some (at g es rs)
+runs_at : (g : Stage) (es : List PrintedEntry) (rs : List Retry) → Counted g es rs → ran start_state (lines_at g es rs) ≡ Some (at g es rs)
 runs_at stage.Start es rs c = λ i. Some (at stage.Start (sym c.0 i) (sym c.1 i))
 runs_at stage.Headed es rs c = λ i. Some (at stage.Headed (sym c.0 i) (sym c.1 i))
 runs_at (stage.Entries n) es rs c =
@@ -96,22 +96,22 @@ runs_at stage.Ended es rs c =
     ∙ (retries_run n es [] rs (final ∷ []) (omega arith)
     ∙ goes (at (stage.Retries n) es rs) (at stage.Ended es rs) final [] (eq-eqb n n refl) refl)
 
-runs : (s : State) → IsState s → ran start (lines_in s) ≡ Some s
+runs : (s : State) → IsState s → ran start_state (lines_of_state s) ≡ Some s
 runs s is = runs_at s.stage s.entries s.retries (fits_counted s.stage s.entries s.retries is.fits)
 
 -- no report goes on with a line that may not follow
-pub not_next : (s : State) (l : Line) → IsState s → allows s.stage (length s.entries) (length s.retries) l ≡ false → (fs : List PrintedEntry) (ss : List Retry) (more : List Line) → report_lines fs ss ≡ lines_in s ++ l ∷ more → ⊥
+pub not_next : (s : State) (l : Line) → IsState s → allows s.stage (length s.entries) (length s.retries) l ≡ false → (fs : List PrintedEntry) (ss : List Retry) (more : List Line) → report_lines fs ss ≡ lines_of_state s ++ l ∷ more → ⊥
 not_next s l is no_ fs ss more e =
-    no_next next start s (at stage.Ended fs ss) (lines_in s) more l (runs s is) (ap (λ b. cond b (Some (advanced s l)) None) no_) (ap (ran start) (sym e) ∙ runs_at stage.Ended fs ss tt)
+    no_next with_line start_state s (at stage.Ended fs ss) (lines_of_state s) more l (runs s is) (ap (λ b. cond b (Some (advanced s l)) None) no_) (ap (ran start_state) (sym e) ∙ runs_at stage.Ended fs ss tt)
 
 -- the lines of a report tell its entries and retries
-pub lines_end : (s : State) (fs : List PrintedEntry) (ss : List Retry) → IsState s → report_lines fs ss ≡ lines_in s → s ≡ at stage.Ended fs ss
+pub lines_end : (s : State) (fs : List PrintedEntry) (ss : List Retry) → IsState s → report_lines fs ss ≡ lines_of_state s → s ≡ at stage.Ended fs ss
 lines_end s fs ss is e =
-    let same : Some s ≡ Some (at stage.Ended fs ss) = sym (runs s is) ∙ (ap (ran start) (sym e) ∙ runs_at stage.Ended fs ss tt) in
+    let same : Some s ≡ Some (at stage.Ended fs ss) = sym (runs s is) ∙ (ap (ran start_state) (sym e) ∙ runs_at stage.Ended fs ss tt) in
     cc
 
 pub one_list : (es fs : List PrintedEntry) (rs ss : List Retry) → report_lines es rs ≡ report_lines fs ss → (es ≡ fs) × (rs ≡ ss)
 one_list es fs rs ss e =
-    let same : Some (at stage.Ended es rs) ≡ Some (at stage.Ended fs ss) = sym (runs_at stage.Ended es rs tt) ∙ (ap (ran start) e ∙ runs_at stage.Ended fs ss tt) in
+    let same : Some (at stage.Ended es rs) ≡ Some (at stage.Ended fs ss) = sym (runs_at stage.Ended es rs tt) ∙ (ap (ran start_state) e ∙ runs_at stage.Ended fs ss tt) in
     let is : at stage.Ended es rs ≡ at stage.Ended fs ss = cc in
     (ap (λ (s : State). s.entries) is, ap (λ (s : State). s.retries) is)

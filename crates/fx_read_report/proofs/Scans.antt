@@ -8,7 +8,7 @@ use Rattle.std.proofs.lemmas.Bool.{cases_Bool}
 use Rattle.fx_report.specs.Print.{is_printable, quote, spelled}
 use Rattle.fx_report.specs.Readable.{AreBytes}
 use Rattle.fx_read_report.specs.declared.quotes.Place.TheVariants.{Plain}
-use Rattle.fx_read_report.specs.Quotes.{digit_value, onto, scan, unquoted}
+use Rattle.fx_read_report.specs.Quotes.{digit_value, byte_onto, scan, unquoted}
 
 abbrev pub prepended : {A : Type 0} → List A → Option (List A × List ℕ) → Option (List A × List ℕ)
 prepended front read = option_map (λ r. (front ++ r.0, r.1)) read
@@ -21,7 +21,7 @@ digit_of d h = grind (arith, nat_tests)
 
 -- what is spelled is read
 
-printed_read : (c : ℕ) (x : List ℕ) → c < 256 → nat_eq c 34 ≡ false → nat_eq c 92 ≡ false → nat_eq c 10 ≡ false → scan Plain (spelled c ++ x) ≡ onto c (scan Plain x)
+printed_read : (c : ℕ) (x : List ℕ) → c < 256 → nat_eq c 34 ≡ false → nat_eq c 92 ≡ false → nat_eq c 10 ≡ false → scan Plain (spelled c ++ x) ≡ byte_onto c (scan Plain x)
 unfolding spelled
 printed_read c x byte not_quote not_slash not_feed =
     let high = digit_of (c / 16) (omega arith) in
@@ -32,10 +32,10 @@ printed_read c x byte not_quote not_slash not_feed =
       | inr e ↦ rw (e, high, low, whole) refl
     ])
 
-spelled_read : (c : ℕ) (x : List ℕ) → c < 256 → scan Plain (spelled c ++ x) ≡ onto c (scan Plain x)
+spelled_read : (c : ℕ) (x : List ℕ) → c < 256 → scan Plain (spelled c ++ x) ≡ byte_onto c (scan Plain x)
 unfolding spelled
 spelled_read c x byte =
-    let P : ℕ → Type 0 = λ d. scan Plain (spelled d ++ x) ≡ onto d (scan Plain x) in
+    let P : ℕ → Type 0 = λ d. scan Plain (spelled d ++ x) ≡ byte_onto d (scan Plain x) in
     elim (same_or_not c 34) [
       | inl e ↦ subst P (sym e) refl
       | inr not_quote ↦ elim (same_or_not c 92) [
@@ -51,7 +51,7 @@ spells_read : (a x : List ℕ) → AreBytes a → scan Plain (flat_map spelled a
 spells_read [] x p = refl
 spells_read (c ∷ a) x p =
     ap (scan Plain) (append_assoc (spelled c) (flat_map spelled a) (34 ∷ x))
-    ∙ (spelled_read c (flat_map spelled a ++ 34 ∷ x) p.0 ∙ ap (onto c) (spells_read a x p.1))
+    ∙ (spelled_read c (flat_map spelled a ++ 34 ∷ x) p.0 ∙ ap (byte_onto c) (spells_read a x p.1))
 
 quote_form : (a x : List ℕ) → quote a ++ x ≡ 34 ∷ (flat_map spelled a ++ 34 ∷ x)
 unfolding quote

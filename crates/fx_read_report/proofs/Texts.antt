@@ -7,7 +7,7 @@ use Rattle.fx_report.specs.declared.printed.PrintedEntry.{PrintedEntry}
 use Rattle.fx_report.specs.Print.{value_text}
 use Rattle.fx_report.proofs.OneLine.{first, rest}
 use Rattle.fx_report.specs.Report.{entries_text, entry_line, entry_text, line, print_line, report_text, retry_line}
-use Rattle.fx_read_report.specs.Form.{AllLackFeed, AreFormEntries, AreFormRetries, ArePrinted, IsForm, LacksFeed}
+use Rattle.fx_read_report.specs.Form.{AllLackFeed, AreFormEntries, AreFormRetries, ArePrinted, IsReportForm, LacksFeed}
 use Rattle.fx_read_report.specs.Lines.{Line, IsLine, head, entries, entry, print, retries, retry, final, entry_lines, line_text, report_lines}
 use Rattle.fx_read_report.proofs.Feeds.{line_lacks}
 
@@ -83,7 +83,7 @@ retries_lines : (rs : List Retry) → AreFormRetries rs → AreAll IsLine (map r
 retries_lines [] p = tt
 retries_lines (r ∷ rs) p = (p.0, retries_lines rs p.1)
 
-pub report_lines_are : (es : List PrintedEntry) (rs : List Retry) → IsForm es rs → AreAll IsLine (report_lines es rs)
+pub report_lines_are : (es : List PrintedEntry) (rs : List Retry) → IsReportForm es rs → AreAll IsLine (report_lines es rs)
 report_lines_are es rs f =
     (tt, (f.entries_fit, lines_join IsLine (entry_lines 0 es) (retries (length rs) ∷ (map retry rs ++ final ∷ [])) (entries_lines 0 es (let fit = f.entries_fit in omega arith) f.entries_form) (f.retries_fit, lines_join IsLine (map retry rs) (final ∷ []) (retries_lines rs f.retries_form) (tt, tt))))
 

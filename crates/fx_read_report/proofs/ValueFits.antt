@@ -13,7 +13,7 @@ use Rattle.fx_read_report.specs.declared.quotes.Place.{Place}
 use Rattle.fx_read_report.specs.declared.quotes.Place.TheVariants.{Plain, Escape, High, Low}
 use Rattle.fx_read_report.specs.declared.quotes.Step.{Step}
 use Rattle.fx_read_report.specs.declared.quotes.Step.TheVariants.{Go, Byte, End, Bad}
-use Rattle.fx_read_report.specs.Values.{ArePrintedRows, ArePrintedTexts, IsPrinted, IsPrintedText, Reader, before, keys_in, keys_of, kind_at, or_false, or_pieces, piece_at, pieces_at, row_at, set_of, table_of, text_at, value_at, value_by}
+use Rattle.fx_read_report.specs.Values.{ArePrintedRows, ArePrintedTexts, IsPrinted, IsPrintedText, Reader, before, keys_in, keys_of, kind_at, or_false, or_pieces, piece_at, pieces_at, row_at, set_within, table_within, text_at, value_at, value_by}
 use Rattle.fx_read_report.specs.declared.values.Kind.{Kind}
 use Rattle.fx_read_report.specs.declared.values.Kind.TheVariants as kind
 use Rattle.fx_read_report.proofs.ValueLoops.{ascends_is}
@@ -197,8 +197,8 @@ module _ (levels : ℕ) (read : Reader) (inner : (x : List ℕ) → Fits (IsPrin
   by_fits kind.Integer x = map_fits IsInteger Is (leading_integer x) Tree.int (integer_fits x) (λ z p. p)
   by_fits kind.Truth x = truth_fits (after (codes "true") x) (after (codes "false") x)
   by_fits kind.Names x =
-      behind_fits Is (after (codes "{") x) (λ y. option_and_then (set_of strict) (pieces_at (text_at strict) 125 (length x) true y)) (λ y.
-      then_fits (AreAll IsPrintedText) Is (pieces_at (text_at strict) 125 (length x) true y) (set_of strict) (pieces_fit IsPrintedText (text_at strict) 125 text_fits (length x) true y) (λ ts p.
+      behind_fits Is (after (codes "{") x) (λ y. option_and_then (set_within strict) (pieces_at (text_at strict) 125 (length x) true y)) (λ y.
+      then_fits (AreAll IsPrintedText) Is (pieces_at (text_at strict) 125 (length x) true y) (set_within strict) (pieces_fit IsPrintedText (text_at strict) 125 text_fits (length x) true y) (λ ts p.
       if_fits Is (ascends ts.0) (Tree.names ts.0, ts.1) (λ e. (all_texts ts.0 p, ascends_is ts.0 e))))
   by_fits kind.Pair x =
       behind_fits Is (after (codes "<") x) (λ y. option_and_then (λ a. option_map (λ b. (Tree.pair a.0 b.0, b.1)) (before read (codes ">") a.1)) (before read (codes ", ") y)) (λ y.
@@ -209,8 +209,8 @@ module _ (levels : ℕ) (read : Reader) (inner : (x : List ℕ) → Fits (IsPrin
       behind_fits Is (after (codes "some(") x) (λ y. option_map (λ a. (Tree.some a.0, a.1)) (before read (codes ")") y)) (λ y.
       map_fits (IsPrinted levels) Is (before read (codes ")") y) Tree.some (before_fits (codes ")") y) (λ a p. p))
   by_fits kind.Table x =
-      behind_fits Is (after (codes "[") x) (λ y. option_and_then (table_of strict) (pieces_at (row_at strict read) 93 (length x) true y)) (λ y.
-      then_fits (AreAll RowFits) Is (pieces_at (row_at strict read) 93 (length x) true y) (table_of strict) (pieces_fit RowFits (row_at strict read) 93 row_fits (length x) true y) (λ es p.
+      behind_fits Is (after (codes "[") x) (λ y. option_and_then (table_within strict) (pieces_at (row_at strict read) 93 (length x) true y)) (λ y.
+      then_fits (AreAll RowFits) Is (pieces_at (row_at strict read) 93 (length x) true y) (table_within strict) (pieces_fit RowFits (row_at strict read) 93 row_fits (length x) true y) (λ es p.
       if_fits Is (ascends (keys_of es.0)) (Tree.table (rows es.0), es.1) (λ e. (all_rows es.0 p, ascends_is (keys_in (rows es.0)) (ap ascends (sym (keys_same es.0)) ∙ e)))))
   by_fits kind.Other x = tt
 

@@ -12,7 +12,7 @@ use Rattle.fx_report.specs.Print.{comma, joined, quote, row_text, row_texts, val
 use Rattle.fx_report.proofs.Rows.{joined_rows}
 use Rattle.fx_read_report.specs.Limits.{Limits}
 use Rattle.fx_read_report.specs.Numbers.{EndsDigits, after, is_digit}
-use Rattle.fx_read_report.specs.Values.{EndsAt, Reader, before, keys_in, keys_of, kind_at, kind_of, or_false, or_pieces, piece_at, pieces_at, row_at, set_of, table_of, text_at, value_at, value_by}
+use Rattle.fx_read_report.specs.Values.{EndsValue, Reader, before, keys_in, keys_of, kind_at, kind_of, or_false, or_pieces, piece_at, pieces_at, row_at, set_within, table_within, text_at, value_at, value_by}
 use Rattle.fx_read_report.specs.declared.values.Kind.{Kind}
 use Rattle.fx_read_report.specs.declared.values.Kind.TheVariants as kind
 use Rattle.fx_read_report.proofs.Digits.{after_read, integer_read, own}
@@ -212,7 +212,7 @@ table_text rs x =
     let same : joined (row_texts rs) ≡ join_by row_text comma (entries rs) = ap (λ r. joined (row_texts r)) (sym (rows_entries rs)) ∙ joined_rows (entries rs) in
     table_form (joined (row_texts rs)) x ∙ ap (λ t. codes "[" ++ (t ++ 93 ∷ x)) same
 
-pub ends_at : (v : Tree) (x : List ℕ) → EndsDigits x → EndsAt v x
+pub ends_at : (v : Tree) (x : List ℕ) → EndsDigits x → EndsValue v x
 ends_at (str t) x s = tt
 ends_at (int n) x s = s
 ends_at (bool b) x s = tt
@@ -224,7 +224,7 @@ ends_at (table rs) x s = tt
 
 -- what is spelled is read, whatever stands behind it
 abbrev pub Reads : Limits → ℕ → Type 0
-Reads m levels = (v : Tree) (x : List ℕ) → IsIn m levels v → EndsAt v x → value_at m levels (value_text v ++ x) ≡ Some (v, x)
+Reads m levels = (v : Tree) (x : List ℕ) → IsIn m levels v → EndsValue v x → value_at m levels (value_text v ++ x) ≡ Some (v, x)
 
 module _ (m : Limits) (levels : ℕ) (later : Reads m levels) where
   abbrev read : Reader
@@ -247,12 +247,12 @@ module _ (m : Limits) (levels : ℕ) (later : Reads m levels) where
   rows_all (row k v rs) p = ((p.0, p.1), rows_all rs p.2)
 
   abbrev sets : Option (List (List ℕ) × List ℕ) → Option (Tree × List ℕ)
-  sets o = option_and_then (set_of m) o
+  sets o = option_and_then (set_within m) o
 
   abbrev tables : Option (List (List ℕ × Tree) × List ℕ) → Option (Tree × List ℕ)
-  tables o = option_and_then (table_of m) o
+  tables o = option_and_then (table_within m) o
 
-  of_kind : (v : Tree) (x : List ℕ) → IsIn m (suc levels) v → EndsAt v x → value_by m read (kind_in v) (value_text v ++ x) ≡ Some (v, x)
+  of_kind : (v : Tree) (x : List ℕ) → IsIn m (suc levels) v → EndsValue v x → value_by m read (kind_in v) (value_text v ++ x) ≡ Some (v, x)
   of_kind (str t) x p s = ap (option_map (λ r. (str r.0, r.1))) (text_read m t x p)
   of_kind (int n) x p s = ap (option_map (λ r. (int r.0, r.1))) (integer_read n x p s)
   of_kind (bool true) x p s = ap (λ o. or_false o (after (codes "false") (codes "true" ++ x))) (after_read (codes "true") x)

@@ -18,7 +18,7 @@ use Rattle.fx_expr.proofs.Trees.{table_tree}
 use Rattle.fx_read_report.specs.Limits.{ascends, strict}
 use Rattle.fx_read_report.specs.Numbers.{after}
 use Rattle.fx_read_report.proofs.Scans.{prepended}
-use Rattle.fx_read_report.specs.Values.{Reader, keys_of, kind_at, or_pieces, piece_at, pieces_at, row_at, table_of, table_value, value_at, value_by, value_found}
+use Rattle.fx_read_report.specs.Values.{Reader, keys_of, kind_at, or_pieces, piece_at, pieces_at, row_at, table_within, table_value, value_at, value_by, value_found}
 use Rattle.fx_read_report.specs.declared.values.Kind.{Kind}
 
 prepended_none : {A : Type 0} (o : Option (List A × List ℕ)) → o ≡ prepended [] o
@@ -157,8 +157,8 @@ module _ (levels : ℕ) (bytes inner : List ℕ) (ks : List (List ℕ)) (vs : Li
 
   table_by : (b : Bool) → length vs ≡ length ks → Some inner ≡ after (codes "[") bytes → Some (sides ks vs, x) ≡ read_rows inner → ascends ks ≡ b → table_value strict (value_at strict levels) bytes ≡ made_if b
   table_by b same opened found is =
-      ap (λ o. option_and_then (λ y. option_and_then (table_of strict) (read_rows y)) o) (sym opened)
-      ∙ (ap (λ o. option_and_then (table_of strict) o) (sym found) ∙ ap (λ b. made_if b) (ap ascends (sides_keys ks vs same) ∙ is))
+      ap (λ o. option_and_then (λ y. option_and_then (table_within strict) (read_rows y)) o) (sym opened)
+      ∙ (ap (λ o. option_and_then (table_within strict) o) (sym found) ∙ ap (λ b. made_if b) (ap ascends (sides_keys ks vs same) ∙ is))
 
   pub table_falls : length vs ≡ length ks → Some inner ≡ after (codes "[") bytes → Some (sides ks vs, x) ≡ read_rows inner → ascends ks ≡ false → None ≡ table_value strict (value_at strict levels) bytes
   table_falls same opened found falls = sym (table_by false same opened found falls)

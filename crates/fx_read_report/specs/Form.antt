@@ -64,7 +64,7 @@ AreFormRetries [] = Unit {0}
 AreFormRetries (r ∷ rest) = IsFormRetry r × AreFormRetries rest
 
 -- the lists of a report, which are counted by numbers of 64 bits
-pub record IsForm (entries : List PrintedEntry) (retries : List Retry) : Type 0 where
+pub record IsReportForm (entries : List PrintedEntry) (retries : List Retry) : Type 0 where
   pub entries_fit : length entries < 2 ^ 64
   pub retries_fit : length retries < 2 ^ 64
   pub entries_form : AreFormEntries entries
@@ -72,7 +72,7 @@ pub record IsForm (entries : List PrintedEntry) (retries : List Retry) : Type 0 
 
 -- bytes that are the report of such lists
 pub record IsReportOf (bytes : List ℕ) (entries : List PrintedEntry) (retries : List Retry) : Type 0 where
-  pub form : IsForm entries retries
+  pub form : IsReportForm entries retries
   pub spelled : bytes ≡ report_text entries retries
 
 -- no byte is a line feed
@@ -98,7 +98,7 @@ pub record BeginsReport (bytes : List ℕ) (number : ℕ) : Type 0 where
 
 -- The bytes are no report, and this is the first number such that they have not so many lines that begin one: the number
 -- of the first line that goes wrong, or one more than the number of the lines.
-pub record IsFirstBadLine (bytes : List ℕ) (number : ℕ) : Type 0 where
+pub record IsFirstWrongLine (bytes : List ℕ) (number : ℕ) : Type 0 where
   pub none : (entries : List PrintedEntry) (retries : List Retry) → IsReportOf bytes entries retries → ⊥
   pub positive : 0 < number
   pub before : (k : ℕ) → k < number → BeginsReport bytes k
@@ -106,5 +106,5 @@ pub record IsFirstBadLine (bytes : List ℕ) (number : ℕ) : Type 0 where
 
 -- why bytes are not read; want of memory has no cause
 abbrev pub ReportCause : List ℕ → ReportFault → Type 0
-ReportCause bytes (BadLine number) = IsFirstBadLine bytes number
+ReportCause bytes (BadLine number) = IsFirstWrongLine bytes number
 ReportCause bytes NoMemory = Unit {0}

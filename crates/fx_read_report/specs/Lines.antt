@@ -58,11 +58,11 @@ FindsLine text None = (l : Line) → IsLine l → text ≡ line_text l → ⊥
 FindsLine text (Some l) = IsLine l × (text ≡ line_text l)
 
 -- the line that the program holds
-abbrev pub line_of : lines.Line → Line
-line_of held.Head = head
-line_of (held.Entries n) = entries n
-line_of (held.Entry i shell txn end) = entry i shell txn end
-line_of (held.Print v) = print (tree_of v)
-line_of (held.Retries n) = retries n
-line_of (held.Retry r) = retry r
-line_of held.Final = final
+abbrev pub held_line : lines.Line → Line
+held_line held.Head = head
+held_line (held.Entries n) = entries n
+held_line (held.Entry i shell txn end) = entry i shell txn end
+held_line (held.Print v) = print (tree_of v)
+held_line (held.Retries n) = retries n
+held_line (held.Retry r) = retry r
+held_line held.Final = final

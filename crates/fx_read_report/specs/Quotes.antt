@@ -33,12 +33,12 @@ step Escape b = escape_step b
 step High b = high_step (digit_value b)
 step (Low high) b = low_step high (digit_value b)
 
-abbrev pub onto : ℕ → Option (List ℕ × List ℕ) → Option (List ℕ × List ℕ)
-onto b read = option_map (λ r. (b ∷ r.0, r.1)) read
+abbrev pub byte_onto : ℕ → Option (List ℕ × List ℕ) → Option (List ℕ × List ℕ)
+byte_onto b read = option_map (λ r. (b ∷ r.0, r.1)) read
 
 abbrev pub stepped : Step → List ℕ → (Place → Option (List ℕ × List ℕ)) → Option (List ℕ × List ℕ)
 stepped (Go place) rest read = read place
-stepped (Byte b) rest read = onto b (read Plain)
+stepped (Byte b) rest read = byte_onto b (read Plain)
 stepped End rest read = Some ([], rest)
 stepped Bad rest read = None
 

@@ -92,5 +92,5 @@ line_by limits levels kind.Retry text = retry_at limits text
 line_by limits levels kind.Final text = final_at text
 
 -- the only line that the bytes can be
-abbrev pub line_at : Limits → ℕ → List ℕ → Option Line
-line_at limits levels text = line_by limits levels (kind_of text) text
+abbrev pub only_line : Limits → ℕ → List ℕ → Option Line
+only_line limits levels text = line_by limits levels (kind_of text) text

@@ -81,20 +81,20 @@ allows at es rs (retry r) = repeats at rs
 allows at es rs final = ends at rs
 
 -- the last entry with one output more
-abbrev pub printed : List PrintedEntry → Tree → List PrintedEntry
-printed [] v = []
-printed (e ∷ []) v = record { shell = e.shell; txn = e.txn; outputs = e.outputs ++ v ∷ []; end = e.end } ∷ []
-printed (e ∷ f ∷ rest) v = e ∷ printed (f ∷ rest) v
+abbrev pub with_last_output : List PrintedEntry → Tree → List PrintedEntry
+with_last_output [] v = []
+with_last_output (e ∷ []) v = record { shell = e.shell; txn = e.txn; outputs = e.outputs ++ v ∷ []; end = e.end } ∷ []
+with_last_output (e ∷ f ∷ rest) v = e ∷ with_last_output (f ∷ rest) v
 
-abbrev pub entered : ℕ → ℕ → End → PrintedEntry
-entered shell txn end = record { shell = shell; txn = txn; outputs = []; end = end }
+abbrev pub entry_begun : ℕ → ℕ → End → PrintedEntry
+entry_begun shell txn end = record { shell = shell; txn = txn; outputs = []; end = end }
 
 -- the report with one line more
 abbrev pub advanced : State → Line → State
 advanced s head = record { stage = stage.Headed; entries = s.entries; retries = s.retries }
 advanced s (entries n) = record { stage = stage.Entries n; entries = s.entries; retries = s.retries }
-advanced s (entry i shell txn end) = record { stage = s.stage; entries = s.entries ++ entered shell txn end ∷ []; retries = s.retries }
-advanced s (print v) = record { stage = s.stage; entries = printed s.entries v; retries = s.retries }
+advanced s (entry i shell txn end) = record { stage = s.stage; entries = s.entries ++ entry_begun shell txn end ∷ []; retries = s.retries }
+advanced s (print v) = record { stage = s.stage; entries = with_last_output s.entries v; retries = s.retries }
 advanced s (retries n) = record { stage = stage.Retries n; entries = s.entries; retries = s.retries }
 advanced s (retry r) = record { stage = s.stage; entries = s.entries; retries = s.retries ++ r ∷ [] }
 advanced s final = record { stage = stage.Ended; entries = s.entries; retries = s.retries }
@@ -107,8 +107,8 @@ lines_at (stage.Entries n) es rs = head ∷ entries n ∷ entry_lines 0 es
 lines_at (stage.Retries n) es rs = head ∷ entries (length es) ∷ (entry_lines 0 es ++ retries n ∷ map retry rs)
 lines_at stage.Ended es rs = report_lines es rs
 
-abbrev pub lines_in : State → List Line
-lines_in s = lines_at s.stage s.entries s.retries
+abbrev pub lines_of_state : State → List Line
+lines_of_state s = lines_at s.stage s.entries s.retries
 
 -- what was read fits what was announced
 abbrev pub Fits : Stage → List PrintedEntry → List Retry → Type 0
@@ -123,8 +123,8 @@ pub record IsState (s : State) : Type 0 where
   pub retries_form : AreFormRetries s.retries
   pub fits : Fits s.stage s.entries s.retries
 
-abbrev pub start : State
-start = record { stage = stage.Start; entries = []; retries = [] }
+abbrev pub start_state : State
+start_state = record { stage = stage.Start; entries = []; retries = [] }
 
 abbrev pub is_ended : Stage → Bool
 is_ended stage.Start = false
@@ -138,10 +138,10 @@ abbrev pub may_follow : State → Line → Bool
 may_follow s l = allows s.stage (length s.entries) (length s.retries) l
 
 -- the report with one line more, if this line may follow
-abbrev pub next : State → Line → Option State
-next s l = cond (may_follow s l) (Some (advanced s l)) None
+abbrev pub with_line : State → Line → Option State
+with_line s l = cond (may_follow s l) (Some (advanced s l)) None
 
 -- a line is taken, or no report goes on with it
 abbrev pub TakesText : State → List ℕ → State → Bool → Type 0
-TakesText old text new true = (l : Line) × IsLine l × (text ≡ line_text l) × IsState new × (lines_in new ≡ lines_in old ++ l ∷ [])
-TakesText old text new false = (l : Line) → IsLine l → text ≡ line_text l → (fs : List PrintedEntry) (ss : List Retry) (more : List Line) → report_lines fs ss ≡ lines_in old ++ l ∷ more → ⊥
+TakesText old text new true = (l : Line) × IsLine l × (text ≡ line_text l) × IsState new × (lines_of_state new ≡ lines_of_state old ++ l ∷ [])
+TakesText old text new false = (l : Line) → IsLine l → text ≡ line_text l → (fs : List PrintedEntry) (ss : List Retry) (more : List Line) → report_lines fs ss ≡ lines_of_state old ++ l ∷ more → ⊥

@@ -48,15 +48,15 @@ abbrev mutual
   ArePrintedRows levels (row key v rest) = IsPrintedText key × IsPrinted levels v × ArePrintedRows levels rest
 
 -- behind an integer stands no digit
-abbrev pub EndsAt : Tree → List ℕ → Type 0
-EndsAt (str text) rest = Unit {0}
-EndsAt (int n) rest = EndsDigits rest
-EndsAt (bool b) rest = Unit {0}
-EndsAt (names texts) rest = Unit {0}
-EndsAt (pair a b) rest = Unit {0}
-EndsAt nothing rest = Unit {0}
-EndsAt (some a) rest = Unit {0}
-EndsAt (table rows) rest = Unit {0}
+abbrev pub EndsValue : Tree → List ℕ → Type 0
+EndsValue (str text) rest = Unit {0}
+EndsValue (int n) rest = EndsDigits rest
+EndsValue (bool b) rest = Unit {0}
+EndsValue (names texts) rest = Unit {0}
+EndsValue (pair a b) rest = Unit {0}
+EndsValue nothing rest = Unit {0}
+EndsValue (some a) rest = Unit {0}
+EndsValue (table rows) rest = Unit {0}
 
 -- the kind of value that begins with a byte
 abbrev pub kind_of : ℕ → Kind
@@ -108,11 +108,11 @@ abbrev pub keys_of : List (List ℕ × Tree) → List (List ℕ)
 keys_of [] = []
 keys_of (e ∷ es) = e.0 ∷ keys_of es
 
-abbrev pub set_of : Limits → List (List ℕ) × List ℕ → Option (Tree × List ℕ)
-set_of limits ts = cond (limits.takes_set ts.0) (Some (names ts.0, ts.1)) None
+abbrev pub set_within : Limits → List (List ℕ) × List ℕ → Option (Tree × List ℕ)
+set_within limits ts = cond (limits.takes_set ts.0) (Some (names ts.0, ts.1)) None
 
-abbrev pub table_of : Limits → List (List ℕ × Tree) × List ℕ → Option (Tree × List ℕ)
-table_of limits es = cond (limits.takes_set (keys_of es.0)) (Some (table (rows es.0), es.1)) None
+abbrev pub table_within : Limits → List (List ℕ × Tree) × List ℕ → Option (Tree × List ℕ)
+table_within limits es = cond (limits.takes_set (keys_of es.0)) (Some (table (rows es.0), es.1)) None
 
 abbrev pub text_value : Limits → List ℕ → Option (Tree × List ℕ)
 text_value limits bytes = option_map (λ t. (str t.0, t.1)) (text_at limits bytes)
@@ -128,7 +128,7 @@ abbrev pub truth_value : List ℕ → Option (Tree × List ℕ)
 truth_value bytes = or_false (after (codes "true") bytes) (after (codes "false") bytes)
 
 abbrev pub names_value : Limits → List ℕ → Option (Tree × List ℕ)
-names_value limits bytes = option_and_then (λ inner. option_and_then (set_of limits) (pieces_at (text_at limits) 125 (length bytes) true inner)) (after (codes "{") bytes)
+names_value limits bytes = option_and_then (λ inner. option_and_then (set_within limits) (pieces_at (text_at limits) 125 (length bytes) true inner)) (after (codes "{") bytes)
 
 abbrev pub pair_value : Reader → List ℕ → Option (Tree × List ℕ)
 pair_value read bytes = option_and_then (λ inner. option_and_then (λ a. option_map (λ b. (pair a.0 b.0, b.1)) (before read (codes ">") a.1)) (before read (codes ", ") inner)) (after (codes "<") bytes)
@@ -140,7 +140,7 @@ abbrev pub some_value : Reader → List ℕ → Option (Tree × List ℕ)
 some_value read bytes = option_and_then (λ inner. option_map (λ a. (some a.0, a.1)) (before read (codes ")") inner)) (after (codes "some(") bytes)
 
 abbrev pub table_value : Limits → Reader → List ℕ → Option (Tree × List ℕ)
-table_value limits read bytes = option_and_then (λ inner. option_and_then (table_of limits) (pieces_at (row_at limits read) 93 (length bytes) true inner)) (after (codes "[") bytes)
+table_value limits read bytes = option_and_then (λ inner. option_and_then (table_within limits) (pieces_at (row_at limits read) 93 (length bytes) true inner)) (after (codes "[") bytes)
 
 abbrev pub value_by : Limits → Reader → Kind → Reader
 value_by limits read kind.Text bytes = text_value limits bytes

@@ -2,8 +2,8 @@
 ghost use Rattle.std.specs.Prelude.{◌≡◌, ◌++◌, IfOk, IfSome, OnOk, bytes_eq, slice_index};
 ghost use Rattle.std.specs.Option.{option_map};
 ghost use Rattle.fx_read_report.specs.Limits.{strict};
-ghost use Rattle.fx_read_report.specs.Lines.{FindsLine, IsLine, entry, line_of, line_text, retry};
-ghost use Rattle.fx_read_report.specs.Reads.{entries_at, entry_at, final_at, head_at, line_at, print_at, retries_at, retry_at};
+ghost use Rattle.fx_read_report.specs.Lines.{FindsLine, IsLine, entry, held_line, line_text, retry};
+ghost use Rattle.fx_read_report.specs.Reads.{entries_at, entry_at, final_at, head_at, only_line, print_at, retries_at, retry_at};
 ghost use Rattle.fx_read_report.specs.Kinds.{kind_by, kind_of};
 
 use crate::numbers::after;
@@ -86,8 +86,8 @@ fn kind_of(text: &[u8]) -> Kind
 
 #[tactic(auto, unfolding(crate::specs::Reads::head_at))]
 fn head_line(text: &[u8]) -> Option<Line>
-    ensures read { option_map line_of result ≡ head_at text.now }
-    ensures fit { IfSome result (λ line. IsLine (line_of line)) }
+    ensures read { option_map held_line result ≡ head_at text.now }
+    ensures fit { IfSome result (λ line. IsLine (held_line line)) }
 {
     if text == b"forest report 1".as_slice() {
         return Some(Line::Head);
@@ -97,8 +97,8 @@ fn head_line(text: &[u8]) -> Option<Line>
 
 #[tactic(auto, unfolding(crate::specs::Reads::entries_at))]
 fn entries_line(text: &[u8]) -> Option<Line>
-    ensures read { option_map line_of result ≡ entries_at text.now }
-    ensures fit { IfSome result (λ line. IsLine (line_of line)) }
+    ensures read { option_map held_line result ≡ entries_at text.now }
+    ensures fit { IfSome result (λ line. IsLine (held_line line)) }
 {
     match last_field(text, b"entries ") {
         Some(number) => Some(Line::Entries(number)),
@@ -108,8 +108,8 @@ fn entries_line(text: &[u8]) -> Option<Line>
 
 #[tactic(auto, unfolding(crate::specs::Reads::entry_at))]
 fn entry_line(alloc: Global, text: &[u8]) -> Result<Option<Line>, NoMemory>
-    ensures read { IfOk result (λ found. option_map line_of found ≡ entry_at strict text.now) }
-    ensures fit { IfOk result (λ found. IfSome found (λ line. IsLine (line_of line))) }
+    ensures read { IfOk result (λ found. option_map held_line found ≡ entry_at strict text.now) }
+    ensures fit { IfOk result (λ found. IfSome found (λ line. IsLine (held_line line))) }
 {
     let Some((number, rest)) = field(text, b"entry ") else {
         return Ok(None);
@@ -137,8 +137,8 @@ fn entry_line(alloc: Global, text: &[u8]) -> Result<Option<Line>, NoMemory>
 #[tactic(auto, unfolding(crate::specs::Reads::print_at))]
 fn print_line(alloc: Global, text: &[u8]) -> Result<Option<Line>, NoMemory>
     ensures read { IfOk result
-        (λ found. option_map line_of found ≡ print_at strict VALUE_LEVELS text.now) }
-    ensures fit { IfOk result (λ found. IfSome found (λ line. IsLine (line_of line))) }
+        (λ found. option_map held_line found ≡ print_at strict VALUE_LEVELS text.now) }
+    ensures fit { IfOk result (λ found. IfSome found (λ line. IsLine (held_line line))) }
 {
     let Some(rest) = after(text, b"print ") else {
         return Ok(None);
@@ -151,8 +151,8 @@ fn print_line(alloc: Global, text: &[u8]) -> Result<Option<Line>, NoMemory>
 
 #[tactic(auto, unfolding(crate::specs::Reads::retries_at))]
 fn retries_line(text: &[u8]) -> Option<Line>
-    ensures read { option_map line_of result ≡ retries_at text.now }
-    ensures fit { IfSome result (λ line. IsLine (line_of line)) }
+    ensures read { option_map held_line result ≡ retries_at text.now }
+    ensures fit { IfSome result (λ line. IsLine (held_line line)) }
 {
     match last_field(text, b"retries ") {
         Some(number) => Some(Line::Retries(number)),
@@ -162,8 +162,8 @@ fn retries_line(text: &[u8]) -> Option<Line>
 
 #[tactic(auto, unfolding(crate::specs::Reads::retry_at))]
 fn retry_line(alloc: Global, text: &[u8]) -> Result<Option<Line>, NoMemory>
-    ensures read { IfOk result (λ found. option_map line_of found ≡ retry_at strict text.now) }
-    ensures fit { IfOk result (λ found. IfSome found (λ line. IsLine (line_of line))) }
+    ensures read { IfOk result (λ found. option_map held_line found ≡ retry_at strict text.now) }
+    ensures fit { IfOk result (λ found. IfSome found (λ line. IsLine (held_line line))) }
 {
     let Some((shell, rest)) = small_field(text, b"retry shell ") else {
         return Ok(None);
@@ -190,8 +190,8 @@ fn retry_line(alloc: Global, text: &[u8]) -> Result<Option<Line>, NoMemory>
 
 #[tactic(auto, unfolding(crate::specs::Reads::final_at))]
 fn final_line(text: &[u8]) -> Option<Line>
-    ensures read { option_map line_of result ≡ final_at text.now }
-    ensures fit { IfSome result (λ line. IsLine (line_of line)) }
+    ensures read { option_map held_line result ≡ final_at text.now }
+    ensures fit { IfSome result (λ line. IsLine (held_line line)) }
 {
     if text == b"end".as_slice() {
         return Some(Line::Final);
@@ -202,8 +202,8 @@ fn final_line(text: &[u8]) -> Option<Line>
 /// The only line that the bytes can be.
 fn line_in(alloc: Global, text: &[u8]) -> Result<Option<Line>, NoMemory>
     ensures read { IfOk result
-        (λ found. option_map line_of found ≡ line_at strict VALUE_LEVELS text.now) }
-    ensures fit { IfOk result (λ found. IfSome found (λ line. IsLine (line_of line))) }
+        (λ found. option_map held_line found ≡ only_line strict VALUE_LEVELS text.now) }
+    ensures fit { IfOk result (λ found. IfSome found (λ line. IsLine (held_line line))) }
 {
     match kind_of(text) {
         Kind::Head => Ok(head_line(text)),
@@ -247,7 +247,7 @@ fn add_retry(out: &mut Vec<u8>, told: &Retry) -> Result<(), NoMemory>
 
 /// Adds a line, without its line feed.
 fn add_line(out: &mut Vec<u8>, line: &Line) -> Result<(), NoMemory>
-    ensures { OnOk result (out.new.items ≡ out.old.items ++ line_text (line_of line.now)) }
+    ensures { OnOk result (out.new.items ≡ out.old.items ++ line_text (held_line line.now)) }
 {
     match line {
         Line::Head => add_bytes(out, b"forest report 1"),
@@ -270,7 +270,7 @@ fn add_line(out: &mut Vec<u8>, line: &Line) -> Result<(), NoMemory>
 
 /// Whether a line, printed, is these bytes.
 fn is_printed(out: &mut Vec<u8>, line: &Line, text: &[u8]) -> Result<bool, NoMemory>
-    ensures { IfOk result (λ same. same ≡ bytes_eq (line_text (line_of line.now)) text.now) }
+    ensures { IfOk result (λ same. same ≡ bytes_eq (line_text (held_line line.now)) text.now) }
 {
     out.clear();
     add_line(out, line)?;
@@ -284,7 +284,7 @@ pub(crate) fn read_line(
     text: &[u8],
     out: &mut Vec<u8>,
 ) -> Result<Option<Line>, NoMemory>
-    ensures { IfOk result (λ found. FindsLine text.now (option_map line_of found)) }
+    ensures { IfOk result (λ found. FindsLine text.now (option_map held_line found)) }
 {
     let Some(line) = line_in(alloc, text)? else {
         return Ok(None);

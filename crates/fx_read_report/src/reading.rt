@@ -1,8 +1,8 @@
 //! How far a report is read, and which line may follow.
 ghost use Rattle.std.specs.Prelude.{◌≡◌, IfOk, OnOk};
 ghost use Rattle.fx_expr.specs.Views.{tree_of};
-ghost use Rattle.fx_read_report.specs.Lines.{line_of};
-ghost use Rattle.fx_read_report.specs.Stages.{advanced, allows, counts, ends, enters, is_ended, is_headed, is_start, may_follow, printed, prints, repeats, start, state_of};
+ghost use Rattle.fx_read_report.specs.Lines.{held_line};
+ghost use Rattle.fx_read_report.specs.Stages.{advanced, allows, counts, ends, enters, is_ended, is_headed, is_start, may_follow, with_last_output, prints, repeats, start_state, state_of};
 
 use crate::lines::Line;
 use fx_base::NoMemory;
@@ -121,7 +121,7 @@ fn ends(stage: Stage, retries: u64) -> bool
 
 /// Whether the line may follow at a stage, behind so many entries and retries.
 fn allows(stage: Stage, entries: u64, retries: u64, line: &Line) -> bool
-    ensures { result ≡ allows stage entries retries (line_of line.now) }
+    ensures { result ≡ allows stage entries retries (held_line line.now) }
 {
     match line {
         Line::Head => is_start(stage),
@@ -147,7 +147,7 @@ fn listed(alloc: Global, entries: Vec<PrintedEntry>) -> Result<PrintedEntries, N
 
 /// Adds an output to the last entry.
 fn print(alloc: Global, entries: &mut Vec<PrintedEntry>, value: Value) -> Result<(), NoMemory>
-    ensures { OnOk result (entries.new.items ≡ printed entries.old.items (tree_of value)) }
+    ensures { OnOk result (entries.new.items ≡ with_last_output entries.old.items (tree_of value)) }
 {
     match entries.pop() {
         Some(last) => {
@@ -163,7 +163,7 @@ fn print(alloc: Global, entries: &mut Vec<PrintedEntry>, value: Value) -> Result
 impl Reading {
     /// Nothing is read.
     pub(crate) fn new(alloc: Global) -> Reading
-        ensures { state_of result ≡ start }
+        ensures { state_of result ≡ start_state }
     {
         Reading {
             stage: Stage::Start,
@@ -187,7 +187,7 @@ impl Reading {
 
     /// Whether the line may follow.
     pub(crate) fn allows(&self, line: &Line) -> bool
-        ensures { result ≡ may_follow (state_of self.now) (line_of line.now) }
+        ensures { result ≡ may_follow (state_of self.now) (held_line line.now) }
     {
         allows(
             self.stage,
@@ -199,7 +199,7 @@ impl Reading {
 
     /// Takes a line that may follow.
     pub(crate) fn take(&mut self, alloc: Global, line: Line) -> Result<(), NoMemory>
-        ensures { OnOk result (state_of self.new ≡ advanced (state_of self.old) (line_of line)) }
+        ensures { OnOk result (state_of self.new ≡ advanced (state_of self.old) (held_line line)) }
     {
         match line {
             Line::Head => {

@@ -1,18 +1,20 @@
 //! The file of the machine.
-ghost use Rattle.std.specs.Prelude.{◌≡◌, ◌≤◌, IfOk, length};
+ghost use Rattle.std.specs.Prelude.{◌≡◌, ◌≤◌, false, IfOk, is_some, length};
 ghost use Rattle.fx_base.specs.Causes.{Rose};
 
-use fx_durable::{Disk, DiskFailed};
+use fx_durable::{Disk, DiskFailed, early_after};
 use fx_outside::HostText;
 use std::fs::{File, OpenFile};
 use std::io::{self, ErrorKind, Read, Seek, SeekFrom, Write};
 use std::rt::Files;
 
-/// The machine's file, once one is chosen. It tells nothing of what it holds, and counts each error of the system.
+/// The machine's file, once one is chosen. It tells nothing of what it holds, and counts each error of the system. A call
+/// before a file is chosen is an error, and is counted as early besides.
 #[derive(Drop)]
 pub struct RealDisk<R: Files + Drop> {
     rt: R,
     faults: u64,
+    early: u64,
     file: Option<R::File>,
 }
 
@@ -84,7 +86,8 @@ fn unchosen() -> io::Error {
 }
 
 fn read_chosen<F: Read + Seek>(file: &mut Option<F>, from: u64, buf: &mut [u8]) -> io::Result<usize>
-    ensures { IfOk result (λ n. n ≤ length buf.new) }
+    ensures bound { IfOk result (λ n. n ≤ length buf.new) }
+    ensures chosen { is_some file.new ≡ is_some file.old }
 {
     match file {
         Some(file) => read(file, from, buf),
@@ -92,7 +95,9 @@ fn read_chosen<F: Read + Seek>(file: &mut Option<F>, from: u64, buf: &mut [u8]) 
     }
 }
 
-fn write_chosen<F: Write + Seek>(file: &mut Option<F>, from: u64, bytes: &[u8]) -> io::Result<()> {
+fn write_chosen<F: Write + Seek>(file: &mut Option<F>, from: u64, bytes: &[u8]) -> io::Result<()>
+    ensures { is_some file.new ≡ is_some file.old }
+{
     match file {
         Some(file) => write(file, from, bytes),
         None => Err(unchosen()),
@@ -119,20 +124,28 @@ fn fault(faults: &mut u64, error: io::Error) -> DiskFailed
 impl<R: Files + Drop> RealDisk<R> {
     /// A disk of which no file is chosen yet.
     pub fn new(rt: R) -> RealDisk<R>
-        ensures { result.faults ≡ 0 }
+        ensures faults { result.faults ≡ 0 }
+        ensures early { result.early ≡ 0 }
+        ensures chosen { is_some result.file ≡ false }
     {
         RealDisk {
             rt,
             faults: 0,
+            early: 0,
             file: None,
         }
     }
 }
 
 impl<R: Files + Drop> Disk for RealDisk<R> {
-    ghost use Rattle.std.specs.Prelude.{None};
+    ghost use Rattle.std.specs.Prelude.{None, is_some};
 
-    ghost view = { λ d. record { told = None; faults = d.faults; others = 0 } };
+    ghost view = { λ d. record {
+      told = None;
+      faults = d.faults;
+      others = 0;
+      choice = record { chosen = is_some d.file; early = d.early };
+    } };
 
     ghost image = { λ _. tt };
 
@@ -147,6 +160,7 @@ impl<R: Files + Drop> Disk for RealDisk<R> {
     }
 
     fn read(&mut self, from: u64, buf: &mut [u8]) -> Result<usize, DiskFailed> {
+        self.early = early_after(self.file.is_some(), self.early);
         match read_chosen(&mut self.file, from, buf) {
             Ok(count) => Ok(count),
             Err(error) => Err(fault(&mut self.faults, error)),
@@ -154,6 +168,7 @@ impl<R: Files + Drop> Disk for RealDisk<R> {
     }
 
     fn write(&mut self, from: u64, bytes: &[u8]) -> Result<(), DiskFailed> {
+        self.early = early_after(self.file.is_some(), self.early);
         match write_chosen(&mut self.file, from, bytes) {
             Ok(()) => Ok(()),
             Err(error) => Err(fault(&mut self.faults, error)),
@@ -161,6 +176,7 @@ impl<R: Files + Drop> Disk for RealDisk<R> {
     }
 
     fn sync(&mut self) -> Result<(), DiskFailed> {
+        self.early = early_after(self.file.is_some(), self.early);
         match sync_chosen(&self.file) {
             Ok(()) => Ok(()),
             Err(error) => Err(fault(&mut self.faults, error)),

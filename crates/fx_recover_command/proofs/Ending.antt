@@ -25,7 +25,7 @@ use Rattle.fx_inputs.proofs.Stages.{then_told}
 use Rattle.fx_words.specs.Job.{RecoverJob}
 use Rattle.fx_durable.specs.Disk.{DiskView}
 use Rattle.fx_durable.specs.Journal.{Spells}
-use Rattle.fx_recover_command.specs.Recovered.{recovered_line, HasImage, HasOrder, HasSomeOrder, IsOutcome, IsBad}
+use Rattle.fx_recover_command.specs.Recovered.{recovered_line, HasImage, HasOrder, HasSomeOrder, IsRecoveryOutcome, IsBad}
 use Rattle.fx_recover_command.specs.Rows.{RecoverReadFault, RecoverEnd, recover_reading, recover_making, recover_command}
 use Rattle.fx_recover_command.specs.Unread.{OrderCause}
 

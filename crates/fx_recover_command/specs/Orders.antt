@@ -12,6 +12,6 @@ pub record AreCounts (base : BaseTree) (o : List Turn) (counts : List ℕ) : Typ
   pub each : (shell : ℕ) → slice_index_or counts shell 0 ≡ next_number o shell
 
 -- the transaction is counted, where it comes next in the order
-abbrev pub AddsNext : BaseTree → List Turn → Turn → List ℕ → Bool → Type 0
-AddsNext base o turn counts true = AreCounts base (o ++ turn ∷ []) counts
-AddsNext base o turn counts false = IsNextIn base o turn → ⊥
+abbrev pub CountsNext : BaseTree → List Turn → Turn → List ℕ → Bool → Type 0
+CountsNext base o turn counts true = AreCounts base (o ++ turn ∷ []) counts
+CountsNext base o turn counts false = IsNextIn base o turn → ⊥

@@ -31,7 +31,7 @@ abbrev pub HasSomeOrder : Tree → RecoverJob → DiskView → Type 0
 HasSomeOrder t j disk = (base : BaseTree) × (order : List Turn) × HasOrder t j disk base order
 
 -- the filestore after the order's transactions, run whole one after another, and the line
-pub record IsOutcome (t : Tree) (j : RecoverJob) (disk : DiskView) (nodes : Nodes) (output : List ℕ) : Type 0 where
+pub record IsRecoveryOutcome (t : Tree) (j : RecoverJob) (disk : DiskView) (nodes : Nodes) (output : List ℕ) : Type 0 where
   pub base : BaseTree
   pub order : List Turn
   pub read : HasOrder t j disk base order

@@ -9,15 +9,15 @@ use Rattle.fx_command.specs.declared.status.Status.{Status}
 use Rattle.fx_command.specs.declared.status.Status.TheVariants as status
 use Rattle.fx_command.specs.Out.{IsProperOut, LetsOut}
 use Rattle.fx_command.specs.Reading.{Reading}
-use Rattle.fx_command.specs.Table.{Making, Command, CommandRow, leaving}
+use Rattle.fx_command.specs.Table.{Making, Command, CommandRow, leaving_folder}
 use Rattle.fx_inputs.specs.Inputs.{HasBase, HasInputs, CannotRead}
 use Rattle.fx_inputs.specs.Reads.{HasReadFault, LetsInputs}
 use Rattle.fx_inputs.specs.Readings.{inputs_reading}
 use Rattle.fx_spec.specs.Plans.{Turn}
 use Rattle.fx_spec.specs.Order.{BaseTree, IsLegal}
-use Rattle.fx_durable.specs.Disk.{DiskView, File, IsAsTold, FailsAt, ChoosesTold}
+use Rattle.fx_durable.specs.Disk.{DiskView, File, IsAsTold, FailsAt, ChoosesFirst}
 use Rattle.fx_durable.specs.Journal.{Spells}
-use Rattle.fx_recover_command.specs.Recovered.{HasSomeOrder, IsOutcome, IsBad}
+use Rattle.fx_recover_command.specs.Recovered.{HasSomeOrder, IsRecoveryOutcome, IsBad}
 
 -- a fault at what a run reads; or one of the disk, or none where it tells a file at another path, where all inputs are read
 abbrev pub RecoverReadFault : RecoverJob → HostView → HostView → DiskView → DiskView → Type 0
@@ -33,7 +33,7 @@ recover_reading j disk disk' = record (inputs_reading j.inputs) {
 
 -- it leaves the filestore after the journal's order at OUT, and prints the order's length
 abbrev pub recover_making : RecoverJob → DiskView → Making (Nodes × List ℕ)
-recover_making j disk = leaving j.out (λ t nodes output. IsOutcome t j disk nodes output)
+recover_making j disk = leaving_folder j.out (λ t nodes output. IsRecoveryOutcome t j disk nodes output)
 
 abbrev pub recover_command : RecoverJob → DiskView → DiskView → Command (Nodes × List ℕ)
 recover_command j disk disk' = record { reads = recover_reading j disk disk'; all = λ t. HasSomeOrder t j disk; makes = recover_making j disk }
@@ -46,9 +46,10 @@ RecoverEnd j host host' sink sink' disk disk' = CommandRow (recover_command j di
 abbrev pub StaysCalm : DiskView → DiskView → Status → Type 0
 StaysCalm disk disk' st = (disk'.faults ≡ disk.faults) ⊎ ((st ≡ status.ReadFault) ⊎ (st ≡ status.NoMemory))
 
--- the table for `recover`: however it ends, the file of the disk is as it was, and where it is at JOURNAL no other path is chosen
+-- the table for `recover`: however it ends, the file of the disk is as it was; a file is chosen before anything is asked of the
+-- disk, and no path but JOURNAL on a disk whose told file is there
 abbrev pub RecoverRow : RecoverJob → HostView → HostView → SinkView → SinkView → DiskView → DiskView → Status → Type 0
-RecoverRow j host host' sink sink' disk disk' st = IsAsTold disk disk' × ChoosesTold j.journal disk disk' × StaysCalm disk disk' st × RecoverEnd j host host' sink sink' disk disk' st
+RecoverRow j host host' sink sink' disk disk' st = IsAsTold disk disk' × ChoosesFirst j.journal disk disk' × StaysCalm disk disk' st × RecoverEnd j host host' sink sink' disk disk' st
 
 -- the fences let the description, the scripts and the folder be read, and OUT be written
 pub record LetsRecover (guard : Guard) (j : RecoverJob) : Type 0 where

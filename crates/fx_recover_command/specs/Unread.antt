@@ -9,10 +9,10 @@ use Rattle.fx_durable.specs.declared.journal_fault.JournalFault.TheVariants as f
 use Rattle.fx_journaling.specs.Laws.{GoesWrong}
 use Rattle.fx_recover_command.specs.Recovered.{HasImage}
 
-abbrev pub unread_status : JournalFault → Status
-unread_status (fault.Broken place) = status.BadJournal place
-unread_status fault.Failed = status.ReadFault
-unread_status fault.NoMemory = status.NoMemory
+abbrev pub journal_status : JournalFault → Status
+journal_status (fault.Broken place) = status.BadJournal place
+journal_status fault.Failed = status.ReadFault
+journal_status fault.NoMemory = status.NoMemory
 
 abbrev pub OrderCause : List ℕ → BaseTree → DiskView → DiskView → Status → Type 0
 OrderCause path base disk disk' status.Done = ⊥

@@ -6,7 +6,7 @@ ghost use Rattle.fx_durable.specs.Disk.{IsAsTold, ChoosesTold};
 ghost use Rattle.fx_durable.specs.Journal.{turns_of, Spells};
 ghost use Rattle.fx_recover_command.specs.Recovered.{HasImage};
 ghost use Rattle.fx_recover_command.specs.Rows.{StaysCalm};
-ghost use Rattle.fx_recover_command.specs.Unread.{unread_status, OrderCause};
+ghost use Rattle.fx_recover_command.specs.Unread.{journal_status, OrderCause};
 
 use crate::order::first_illegal;
 use fx_command::Status;
@@ -17,7 +17,7 @@ use std::alloc::Global;
 
 /// How the command ends where no order was read.
 fn unread(fault: JournalFault) -> Status
-    ensures { result ≡ unread_status fault }
+    ensures { result ≡ journal_status fault }
 {
     match fault {
         JournalFault::Broken(place) => Status::BadJournal { place },
@@ -38,6 +38,7 @@ pub(crate) fn read_order<D: Disk>(
     ensures legal { IfOk result (λ order. IsLegal (base_tree base.now) (turns_of order)) }
     ensures same { IsAsTold (D.view disk.old) (D.view disk.new) }
     ensures others { ChoosesTold path.now (D.view disk.old) (D.view disk.new) }
+    ensures early { (D.view disk.new).choice.early ≡ (D.view disk.old).choice.early }
     ensures calm { OnOk result ((D.view disk.new).faults ≡ (D.view disk.old).faults) }
     ensures calm_err { IfErr result (StaysCalm (D.view disk.old) (D.view disk.new)) }
     ensures cause { IfErr result

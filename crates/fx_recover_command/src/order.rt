@@ -5,7 +5,7 @@ ghost use Rattle.fx_spec.specs.Order.{IsLegal};
 ghost use Rattle.fx_spec.specs.Plans.{Turn};
 ghost use Rattle.fx_durable.specs.Journal.{turn_of, turns_of};
 ghost use Rattle.fx_replay_log.specs.Legal.{IsFirstIllegal};
-ghost use Rattle.fx_recover_command.specs.Orders.{AddsNext, AreCounts};
+ghost use Rattle.fx_recover_command.specs.Orders.{CountsNext, AreCounts};
 
 use fx_base::NoMemory;
 use fx_durable::Pairs;
@@ -24,7 +24,7 @@ fn no_counts(alloc: Global, shells: u32) -> Result<Vec<u32>, NoMemory>
 /// Counts a transaction, if it is its shell's next one and stands in the script.
 fn add_next(base: &Base, counts: &mut [u32], pair: &Pair) -> bool
     ensures { (o : List Turn) → AreCounts (base_tree base.now) o counts.old
-        → AddsNext (base_tree base.now) o (turn_of pair.now) counts.new result }
+        → CountsNext (base_tree base.now) o (turn_of pair.now) counts.new result }
 {
     let shell = pair.shell as usize;
     if shell >= counts.len() {

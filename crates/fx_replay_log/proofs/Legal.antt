@@ -13,7 +13,7 @@ use Rattle.fx_spec.specs.Order.{BaseTree, IsLegal, number_in, numbers_of, first_
 use Rattle.fx_machine.specs.declared.entry.Pair.{Pair}
 use Rattle.fx_machine.proofs.Weight.{length_first}
 use Rattle.fx_replay_log.specs.Legal.{IsNextIn}
-use Rattle.fx_replay_log.specs.Orders.{turn_of, turns_of}
+use Rattle.fx_replay_log.specs.Orders.{pair_turn, pair_turns}
 
 front_at : {X : Type 0} (xs ys : List X) (i : ℕ) → i < length xs → slice_get (xs ++ ys) i ≡ slice_get xs i
 front_at [] ys i h = absurd (omega (arith, h))
@@ -88,8 +88,8 @@ split_at [] i d h = absurd (omega (arith, h))
 split_at (y ∷ ys) zero d h = refl
 split_at (y ∷ ys) (suc i) d h = ap (λ l. y ∷ l) (split_at ys i d (omega (arith, h)))
 
-pub next_of : (base : BaseTree) (pairs : List Pair) (i : ℕ) (d : Pair) → IsLegal base (turns_of pairs) → i < length pairs → IsNextIn base (turns_of (take i pairs)) (turn_of (slice_index_or pairs i d))
+pub next_of : (base : BaseTree) (pairs : List Pair) (i : ℕ) (d : Pair) → IsLegal base (pair_turns pairs) → i < length pairs → IsNextIn base (pair_turns (take i pairs)) (pair_turn (slice_index_or pairs i d))
 next_of base pairs i d legal h =
     let p = slice_index_or pairs i d in
-    legal_turn base (turns_of (take i pairs)) (turns_of (drop (suc i) pairs)) (turn_of p)
-    (subst (IsLegal base) (ap turns_of (split_at pairs i d h) ∙ map-append turn_of (take i pairs) (p ∷ drop (suc i) pairs)) legal)
+    legal_turn base (pair_turns (take i pairs)) (pair_turns (drop (suc i) pairs)) (pair_turn p)
+    (subst (IsLegal base) (ap pair_turns (split_at pairs i d h) ∙ map-append pair_turn (take i pairs) (p ∷ drop (suc i) pairs)) legal)

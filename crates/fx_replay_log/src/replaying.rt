@@ -7,7 +7,7 @@ ghost use Rattle.fx_machine.specs.Explained.{IsExplained};
 ghost use Rattle.fx_machine.specs.Machine.{next_number};
 ghost use Rattle.fx_board.specs.Board.{IsLog, settled, started};
 ghost use Rattle.fx_replay_log.specs.Present.{AreNow};
-ghost use Rattle.fx_replay_log.specs.Orders.{turns_of, logged};
+ghost use Rattle.fx_replay_log.specs.Orders.{pair_turns, logged};
 
 use crate::present::Present;
 use fx_base::{Listed, NoMemory};
@@ -85,8 +85,8 @@ fn enter_all(
     order: &Pairs,
 ) -> Result<(), NoMemory>
     requires begun { board.old ≡ started (base_tree base.now.value) }
-    requires legal { IsLegal (base_tree base.now.value) (turns_of order.now) }
-    ensures { OnOk result (board.new ≡ logged (base_tree base.now.value) (turns_of order.now)) }
+    requires legal { IsLegal (base_tree base.now.value) (pair_turns order.now) }
+    ensures { OnOk result (board.new ≡ logged (base_tree base.now.value) (pair_turns order.now)) }
 {
     for pair in order.as_slice() {
         enter(alloc, base, board, pair.shell, pair.txn)?;
@@ -96,8 +96,8 @@ fn enter_all(
 
 /// The log of an order: its transactions run whole, one after another, on the loaded filestore.
 fn log_of(alloc: Global, base: &Arc<Base>, order: &Pairs) -> Result<Board, NoMemory>
-    requires { IsLegal (base_tree base.now.value) (turns_of order.now) }
-    ensures { IfOk result (λ board. board ≡ logged (base_tree base.now.value) (turns_of order.now)) }
+    requires { IsLegal (base_tree base.now.value) (pair_turns order.now) }
+    ensures { IfOk result (λ board. board ≡ logged (base_tree base.now.value) (pair_turns order.now)) }
 {
     let mut board = Board::new(alloc, Arc::try_clone(base)?)?;
     match enter_all(alloc, base, &mut board, order) {
@@ -111,9 +111,9 @@ fn log_of(alloc: Global, base: &Arc<Base>, order: &Pairs) -> Result<Board, NoMem
 
 /// The filestore that the transactions of an order leave, which needs to be legal.
 pub fn replay(alloc: Global, base: &Arc<Base>, order: &Pairs) -> Result<Filestore, NoMemory>
-    requires { IsLegal (base_tree base.now.value) (turns_of order.now) }
+    requires { IsLegal (base_tree base.now.value) (pair_turns order.now) }
     ensures { IfOk result (λ store. store.nodes
-        ≡ state (base_tree base.now.value) (turns_of order.now) (length (turns_of order.now))) }
+        ≡ state (base_tree base.now.value) (pair_turns order.now) (length (pair_turns order.now))) }
 {
     let board = log_of(alloc, base, order)?;
     let store = board.store().copy(alloc);

@@ -7,7 +7,7 @@ use Rattle.fx_spec.specs.Order.{BaseTree, state}
 use Rattle.fx_spec.specs.Transaction.{outputs, end}
 use Rattle.fx_machine.specs.declared.entry.Entry.{Entry}
 use Rattle.fx_board.specs.Log.{Log}
-use Rattle.fx_board.specs.Board.{IsEntry, turn_of}
+use Rattle.fx_board.specs.Board.{IsEntry, entry_turn}
 use Rattle.fx_report.specs.declared.printed.PrintedEntry.{PrintedEntry}
 use Rattle.fx_report.specs.Entries.{printed, entry, entries_from, entries_of, commands_or_none}
 
@@ -32,12 +32,12 @@ same_printed e f shell txn outputs ended = λ i. record { shell = shell i; txn =
 pub entry_there : (log : Log) (i : ℕ) (e : Entry) → IsEntry log i e → slice_get (entries_of log.base log.order) i ≡ Some (printed e)
 unfolding entries_of
 entry_there log i e is =
-    let there = from_there log.base log.order 0 i log.order (turn_of e) is.turn in
+    let there = from_there log.base log.order 0 i log.order (entry_turn e) is.turn in
     let here : 0 + i ≡ i = omega arith in
     let t = is.txn in
-    let planned : commands_or_none (txn_of log.base.plan (turn_of e)) ≡ t = ap commands_or_none is.planned in
-    there ∙ ap (λ n. Some (entry log.base log.order n (turn_of e))) here
-    ∙ ap Some (same_printed (entry log.base log.order i (turn_of e)) (printed e) refl refl
+    let planned : commands_or_none (txn_of log.base.plan (entry_turn e)) ≡ t = ap commands_or_none is.planned in
+    there ∙ ap (λ n. Some (entry log.base log.order n (entry_turn e))) here
+    ∙ ap Some (same_printed (entry log.base log.order i (entry_turn e)) (printed e) refl refl
     (ap (λ t. outputs log.base.description t (get (state log.base log.order i))) planned ∙ is.outputs)
     (ap (λ t. end log.base.description t (get (state log.base log.order i))) planned ∙ is.end))
 

@@ -21,7 +21,7 @@ use Rattle.fx_run.specs.declared.pursuing.Ran.{Ran}
 use Rattle.fx_run.specs.Course.{pursued, HasCome}
 use Rattle.fx_run.specs.Keeping.{AreKept}
 use Rattle.fx_run.specs.Finishing.{IsFinished, IsAttempt, Finishes}
-use Rattle.fx_run.specs.Running.{ReadsFit, Foretells, Attempted, KeepsOn, StoppedAt}
+use Rattle.fx_run.specs.Running.{ReadsFit, Foretells, IsAttemptOf, KeepsOn, StoppedAt}
 use Rattle.fx_run.proofs.Explaining.{explained, next_needed, unread_needed, fit_again}
 use Rattle.fx_run.proofs.Foretelling.{foretells}
 
@@ -57,7 +57,7 @@ module _ {R : Type 0} (m : Meaning R) (base : BaseTree) (shell txn : ℕ) (t : L
   run_explained (Ok a) is = attempt_explained a is
   run_explained (Err why) is = tt
 
-  pub run_attempted : (r : Result Attempt Stop) → Finishes m base.description t shell txn old new r → IfOk r (Attempted m old new shell txn)
+  pub run_attempted : (r : Result Attempt Stop) → Finishes m base.description t shell txn old new r → IfOk r (IsAttemptOf m old new shell txn)
   run_attempted (Ok a) is = record { whose = is.whose; number = is.number; more = is.more; kept = is.kept; none = is.none; same = is.same; vouched = is.vouched }
   run_attempted (Err why) is = tt
 

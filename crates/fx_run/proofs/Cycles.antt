@@ -21,7 +21,7 @@ use Rattle.fx_run.specs.declared.work.Work.{Work}
 use Rattle.fx_run.specs.Leaving.{ended}
 use Rattle.fx_run.specs.Pursuing.{pursuit}
 use Rattle.fx_run.specs.Works.{root_of, standing_of, reader_of, own_of, came_by, IsSound, IsSameWalk, Obeys}
-use Rattle.fx_run.specs.Scopes.{HasBlock, HasCommand, HasTurn, Opens, Scopes, ScopesBlock, KeepsTurn}
+use Rattle.fx_run.specs.Scopes.{HasBlock, HasCommand, HasTurn, OpensScope, Scopes, ScopesBlock, KeepsTurn}
 use Rattle.fx_run.proofs.Scoped.{opens_same}
 use Rattle.fx_run.proofs.Obeyed.{Leaves, obeys_quiet, obeys_same, obeys_then, obeys_leaves}
 
@@ -63,7 +63,7 @@ module _ {R L : Type 0} {m : Meaning R} where
 -- between two commands
 pub record IsObeying {R L : Type 0} (m : Meaning R) (begun : Work R L) (first : ℕ) (commands : List CommandTree) (k number : ℕ) (w : Work R L) : Type 0 where
   pub counted : number + count_block (block (drop k commands)) ≡ first + count_block (block commands)
-  pub opens : (scope : Scope) → BindingsHave begun.variables scope → IsBlock scope (block commands) → Opens scope w.variables (block (drop k commands))
+  pub opens : (scope : Scope) → BindingsHave begun.variables scope → IsBlock scope (block commands) → OpensScope scope w.variables (block (drop k commands))
   pub sound : IsSound m w.walk
   pub root : root_of w ≡ root_of begun
   pub goes : (last : Work R L) (r : Result (Unit {0}) Leave) → Obeys m (run_block (root_of begun) number (block (drop k commands)) (standing_of w)) w last r

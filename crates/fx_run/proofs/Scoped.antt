@@ -16,7 +16,7 @@ use Rattle.fx_spec.specs.WellShaped.{Scope, IsBlock}
 use Rattle.fx_spec.proofs.Scoped.{bind_has, set_has, cut_has}
 use Rattle.fx_run.specs.Acts.{HasAct}
 use Rattle.fx_run.specs.declared.leave.Leave.{Leave}
-use Rattle.fx_run.specs.Scopes.{HasBlock, HasCommand, HasTurn, Opens, Scopes, ScopesBlock, Keeps, KeepsTurn}
+use Rattle.fx_run.specs.Scopes.{HasBlock, HasCommand, HasTurn, OpensScope, Scopes, ScopesBlock, KeepsVariables, KeepsTurn}
 
 -- ---- values that are bound, and bound again
 
@@ -62,14 +62,14 @@ module _ (vars : Bindings) where
 
 -- ---- what a command leaves
 
-pub opens_same : (scope : Scope) (new : Bindings) (rest : Block) → BindingsHave new scope → IsBlock scope rest → Opens scope new rest
+pub opens_same : (scope : Scope) (new : Bindings) (rest : Block) → BindingsHave new scope → IsBlock scope rest → OpensScope scope new rest
 opens_same scope new rest b h = record {
   more = [];
   bindings = subst (BindingsHave new) (sym (append-nil scope)) b;
   shaped = subst (λ g. IsBlock g rest) (sym (append-nil scope)) h;
 }
 
-opens_bound : (scope : Scope) (old new : Bindings) (rest : Block) (x : List ℕ) (v : Tree) (s : ShapeTree) → BindingsHave old scope → ValueHas v s → new ≡ bind old x v → IsBlock (bind scope x s) rest → Opens scope new rest
+opens_bound : (scope : Scope) (old new : Bindings) (rest : Block) (x : List ℕ) (v : Tree) (s : ShapeTree) → BindingsHave old scope → ValueHas v s → new ≡ bind old x v → IsBlock (bind scope x s) rest → OpensScope scope new rest
 opens_bound scope old new rest x v s b has is h = record {
   more = (x, s) ∷ [];
   bindings = subst (λ e. BindingsHave e (bind scope x s)) (sym is) (bind_has old scope x v s b has);
@@ -111,24 +111,24 @@ module _ (old new : Bindings) where
     pub scopes_act : (a : ActTree) → new ≡ old → Scopes (CommandTree.act a) old new r
     scopes_act a same scope rest b h = at r
       where
-        at : (r : Result (Unit {0}) Leave) → IfOk r (λ _. Opens scope new rest)
+        at : (r : Result (Unit {0}) Leave) → IfOk r (λ _. OpensScope scope new rest)
         at (Ok u) = opens_same scope new rest (subst (λ n. BindingsHave n scope) (sym same) b) h.1
         at (Err l) = tt
 
-    pub scopes_yes : (e : ExprTree) (y n : Block) → Keeps y old new r → Scopes (CommandTree.branch e y n) old new r
-    scopes_yes e y n keeps scope rest b h = on (BindingsHave new scope) (Opens scope new rest) r (λ c. opens_same scope new rest c h.3) (keeps scope b h.1)
+    pub scopes_yes : (e : ExprTree) (y n : Block) → KeepsVariables y old new r → Scopes (CommandTree.branch e y n) old new r
+    scopes_yes e y n keeps scope rest b h = on (BindingsHave new scope) (OpensScope scope new rest) r (λ c. opens_same scope new rest c h.3) (keeps scope b h.1)
 
-    pub scopes_no : (e : ExprTree) (y n : Block) → Keeps n old new r → Scopes (CommandTree.branch e y n) old new r
-    scopes_no e y n keeps scope rest b h = on (BindingsHave new scope) (Opens scope new rest) r (λ c. opens_same scope new rest c h.3) (keeps scope b h.2)
+    pub scopes_no : (e : ExprTree) (y n : Block) → KeepsVariables n old new r → Scopes (CommandTree.branch e y n) old new r
+    scopes_no e y n keeps scope rest b h = on (BindingsHave new scope) (OpensScope scope new rest) r (λ c. opens_same scope new rest c h.3) (keeps scope b h.2)
 
     pub scopes_each : (x : List ℕ) (e : ExprTree) (a : Block) → KeepsTurn x a old new r → Scopes (CommandTree.each x e a) old new r
-    scopes_each x e a keeps scope rest b h = on (BindingsHave new scope) (Opens scope new rest) r (λ c. opens_same scope new rest c h.3) (keeps scope b h.2)
+    scopes_each x e a keeps scope rest b h = on (BindingsHave new scope) (OpensScope scope new rest) r (λ c. opens_same scope new rest c h.3) (keeps scope b h.2)
 
 -- a block that is left, and a turn
 pub cut_by : (n : ℕ) (old mid new : Bindings) → new ≡ take n mid → n ≡ length old → new ≡ take (length old) mid
 cut_by n old mid new cut is = cut ∙ ap (λ n. take n mid) is
 
-pub keeps_cut : (old mid new : Bindings) (b : Block) → ScopesBlock b old mid (Ok tt) → new ≡ take (length old) mid → Keeps b old new (Ok tt)
+pub keeps_cut : (old mid new : Bindings) (b : Block) → ScopesBlock b old mid (Ok tt) → new ≡ take (length old) mid → KeepsVariables b old new (Ok tt)
 keeps_cut old mid new b scopes cut scope has h =
     let o = scopes scope has h in
     subst (λ n. BindingsHave n scope) (sym cut) (cut_has old mid scope o.more has o.bindings)

@@ -27,7 +27,7 @@ use Rattle.fx_zip.specs.Calls.{Moves, OnRefused}
 use Rattle.fx_zip.specs.Fresh.{IsFreshIn}
 use Rattle.fx_zip.specs.Trees.{ZipTree}
 use Rattle.fx_run.specs.declared.walk.Walk.{Walk}
-use Rattle.fx_run.specs.Acts.{Acts, IsTaken, Took}
+use Rattle.fx_run.specs.Acts.{Acts, HasTakenPlace, Took}
 use Rattle.fx_run.proofs.Going.{parted_as, parted_always, mapped, read_with, stop_as}
 
 abbrev pub walk_of : {R L : Type 0} → ZipTree → Session R L → Walk R L
@@ -41,7 +41,7 @@ took_on : {R L : Type 0} (old new : Walk R L) (e : Effect) → Took e (once old)
 took_on old new (txn.Moves a) took = took
 took_on old new (txn.Changes changes) took = took
 
-ticked_taken : {R L : Type 0} (m : Meaning R) (old new : Walk R L) (rule : Ask (Answered Effect)) (r : Result (Unit {0}) Halt) → IsTaken m (once old) new rule r → IsTaken m old new rule r
+ticked_taken : {R L : Type 0} (m : Meaning R) (old new : Walk R L) (rule : Ask (Answered Effect)) (r : Result (Unit {0}) Halt) → HasTakenPlace m (once old) new rule r → HasTakenPlace m old new rule r
 ticked_taken m old new rule (Ok u) h = (h.0, h.1, took_on old new h.0 h.2)
 ticked_taken m old new rule (Err (halt.Refused f)) h = h
 ticked_taken m old new rule (Err (halt.Stopped why)) h = h
@@ -58,7 +58,7 @@ module _ {R L : Type 0} {m : Meaning R} where
   -- ---- a move through the reader
 
   module _ (old : Walk R L) (z : ZipTree) (now : Session R L) (rule : Ask (Answered Address)) where
-    moves_taken : (r : Result (Unit {0}) Halt) → Implements m (answered (λ (u : Unit {0}). z.address)) old.session now rule (split r) → OnRefused r (z.address ≡ old.zip.address) → IsTaken m old (walk_of z now) (moving rule) r
+    moves_taken : (r : Result (Unit {0}) Halt) → Implements m (answered (λ (u : Unit {0}). z.address)) old.session now rule (split r) → OnRefused r (z.address ≡ old.zip.address) → HasTakenPlace m old (walk_of z now) (moving rule) r
     moves_taken (Ok u) h same = (txn.Moves z.address, mapped h moves, (refl, h.own))
     moves_taken (Err (halt.Refused f)) h same = (mapped h moves, same, h.own)
     moves_taken (Err (halt.Stopped why)) h same =

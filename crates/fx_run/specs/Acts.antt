@@ -35,17 +35,17 @@ Goes m view old new rule result = GoesBy m view (own_at old.own) old.reader.now 
 
 -- the effect that the rule answers has taken place, or the refusal that it answers has changed nothing; the rule is followed
 -- under the own changes from before
-abbrev pub IsTaken : {R L : Type 0} → Meaning R → Walk R L → Walk R L → Ask (Answered Effect) → Result (Unit {0}) Halt → Type 0
-IsTaken m old new rule (Ok u) =
+abbrev pub HasTakenPlace : {R L : Type 0} → Meaning R → Walk R L → Walk R L → Ask (Answered Effect) → Result (Unit {0}) Halt → Type 0
+HasTakenPlace m old new rule (Ok u) =
     (effect : Effect) × (Goes {X = Unit {0}} m (λ u. Ok effect) old.session new.session rule (Ok tt)) × Took effect old new
-IsTaken m old new rule (Err (halt.Refused refusal)) =
+HasTakenPlace m old new rule (Err (halt.Refused refusal)) =
     (Goes {X = Unit {0}} m (λ u. Err refusal) old.session new.session rule (Ok tt)) × (new.zip.address ≡ old.zip.address) × (new.session.own ≡ old.session.own)
-IsTaken m old new rule (Err (halt.Stopped why)) =
+HasTakenPlace m old new rule (Err (halt.Stopped why)) =
     Goes {X = Unit {0}} m (λ u. Ok (Moves old.zip.address)) old.session new.session rule (Err why)
 
 -- the call makes the act whose effect the rule answers
 pub record Acts {R L : Type 0} (m : Meaning R) (old new : Walk R L) (rule : Ask (Answered Effect)) (result : Result (Unit {0}) Halt) : Type 0 where
-  pub taken : IsTaken m old new rule result
+  pub taken : HasTakenPlace m old new rule result
   -- the zipper is fresh over what is known then, unless the call stops
   pub fresh : IfOk (parted result) (λ _. IsFreshIn m new.session new.zip)
   pub root : new.zip.root ≡ old.zip.root

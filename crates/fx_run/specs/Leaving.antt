@@ -33,9 +33,9 @@ ended (Err (leave.Over end)) = Ok (Some end)
 ended (Err (leave.Stopped why)) = Err why
 
 -- a part of an answer
-abbrev pub part : {A B : Type 0} → (A → B) → Answered A → Answered B
-part f (Ok a) = Ok (f a)
-part f (Err refusal) = Err refusal
+abbrev pub answer_part : {A B : Type 0} → (A → B) → Answered A → Answered B
+answer_part f (Ok a) = Ok (f a)
+answer_part f (Err refusal) = Err refusal
 
 -- a call that reads nothing answers, or its refusal ends the transaction at the command's number
 abbrev pub OrStops : {A X : Type 0} → ℕ → (X → A) → Answered A → Result X Leave → Type 0

@@ -39,7 +39,7 @@ Foretells base turn old reads =
 
 -- the attempt is of the transaction asked for, and holds the reads that the reader had at the end: its earlier ones are among
 -- them, the reader has none any more, and it vouches for them
-pub record Attempted {R : Type 0} (m : Meaning R) (old new : R) (shell txn : ℕ) (a : Attempt) : Type 0 where
+pub record IsAttemptOf {R : Type 0} (m : Meaning R) (old new : R) (shell txn : ℕ) (a : Attempt) : Type 0 where
   pub whose : a.shell ≡ shell
   pub number : a.txn ≡ txn
   pub more : ReadList

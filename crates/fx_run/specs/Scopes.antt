@@ -26,21 +26,21 @@ pub record HasTurn (vars : Bindings) (x : List ℕ) (b : Block) : Type 0 where
   pub shaped : IsBlock (bind scope x ShapeTree.str) b
 
 -- the scope has grown to one in which the block that comes is well shaped
-pub record Opens (scope : Scope) (vars : Bindings) (rest : Block) : Type 0 where
+pub record OpensScope (scope : Scope) (vars : Bindings) (rest : Block) : Type 0 where
   pub more : Scope
   pub bindings : BindingsHave vars (scope ++ more)
   pub shaped : IsBlock (scope ++ more) rest
 
 -- what a command leaves to the others
 abbrev pub Scopes : CommandTree → Bindings → Bindings → Result (Unit {0}) Leave → Type 0
-Scopes c old new result = (scope : Scope) (rest : Block) → BindingsHave old scope → IsBlock scope (Block.then c rest) → IfOk result (λ _. Opens scope new rest)
+Scopes c old new result = (scope : Scope) (rest : Block) → BindingsHave old scope → IsBlock scope (Block.then c rest) → IfOk result (λ _. OpensScope scope new rest)
 
 abbrev pub ScopesBlock : Block → Bindings → Bindings → Result (Unit {0}) Leave → Type 0
-ScopesBlock b old new result = (scope : Scope) → BindingsHave old scope → IsBlock scope b → IfOk result (λ _. Opens scope new Block.none)
+ScopesBlock b old new result = (scope : Scope) → BindingsHave old scope → IsBlock scope b → IfOk result (λ _. OpensScope scope new Block.none)
 
 -- after a block the variables are those of before it
-abbrev pub Keeps : Block → Bindings → Bindings → Result (Unit {0}) Leave → Type 0
-Keeps b old new result = (scope : Scope) → BindingsHave old scope → IsBlock scope b → IfOk result (λ _. BindingsHave new scope)
+abbrev pub KeepsVariables : Block → Bindings → Bindings → Result (Unit {0}) Leave → Type 0
+KeepsVariables b old new result = (scope : Scope) → BindingsHave old scope → IsBlock scope b → IfOk result (λ _. BindingsHave new scope)
 
 abbrev pub KeepsTurn : List ℕ → Block → Bindings → Bindings → Result (Unit {0}) Leave → Type 0
 KeepsTurn x b old new result = (scope : Scope) → BindingsHave old scope → IsBlock (bind scope x ShapeTree.str) b → IfOk result (λ _. BindingsHave new scope)

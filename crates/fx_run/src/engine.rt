@@ -4,7 +4,7 @@ ghost use Rattle.fx_spec.specs.Plans.{txn_of};
 ghost use Rattle.fx_spec.specs.WellShaped.{IsTransaction};
 ghost use Rattle.fx_machine.specs.Explained.{IsExplained};
 ghost use Rattle.fx_run.specs.Finishing.{Finishes};
-ghost use Rattle.fx_run.specs.Running.{ReadsFit, Foretells, Attempted, StoppedAt};
+ghost use Rattle.fx_run.specs.Running.{ReadsFit, Foretells, IsAttemptOf, StoppedAt};
 
 use crate::finishing::finish;
 use crate::pursuing::pursue;
@@ -68,7 +68,7 @@ pub fn run<R: Reader>(
     requires planned { IsSome (txn_of base.now.value.plan (shell, txn)) }
     requires fit { ReadsFit (base_tree base.now.value) (shell, txn) (R.meaning.reads reader.old) }
     ensures explained { IfOk result (IsExplained (base_tree base.now.value)) }
-    ensures attempted { IfOk result (Attempted R.meaning reader.old reader.new shell txn) }
+    ensures attempted { IfOk result (IsAttemptOf R.meaning reader.old reader.new shell txn) }
     ensures foretold { IfOk result (λ a. Foretells (base_tree base.now.value) (shell, txn)
         (R.meaning.reads reader.old) a.reads) }
     ensures stopped { IfErr result

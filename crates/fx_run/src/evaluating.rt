@@ -7,7 +7,7 @@ ghost use Rattle.fx_expr.specs.Views.{expr_tree, tree_of};
 ghost use Rattle.fx_spec.specs.Move as move;
 ghost use Rattle.fx_session.specs.Implements.{ticked};
 ghost use Rattle.fx_edit.specs.Values.{Tells};
-ghost use Rattle.fx_run.specs.Leaving.{OrStops, part};
+ghost use Rattle.fx_run.specs.Leaving.{OrStops, answer_part};
 
 use crate::leave::{Leave, or_stop};
 use fx_expr::{Env, Expr, TextSet, Value};
@@ -53,7 +53,7 @@ pub(crate) fn truth_of<R: Reader, L: Ledger>(
 ) -> Result<bool, Leave>
     requires { IsWellShaped variables.now (expr_tree expr.now) }
     ensures value { OrStops number (λ b. b)
-        (part eval.truth_in (move.evaluated (eval_of variables.now (expr_tree expr.now)))) result }
+        (answer_part eval.truth_in (move.evaluated (eval_of variables.now (expr_tree expr.now)))) result }
     ensures tick { session.new ≡ ticked session.old }
 {
     Ok(value_of(session, number, expr, variables)?.is_true())
@@ -68,7 +68,7 @@ pub(crate) fn names_of<R: Reader, L: Ledger>(
 ) -> Result<TextSet, Leave>
     requires { IsWellShaped variables.now (expr_tree expr.now) }
     ensures value { OrStops number (λ s. s)
-        (part eval.names_in (move.evaluated (eval_of variables.now (expr_tree expr.now)))) result }
+        (answer_part eval.names_in (move.evaluated (eval_of variables.now (expr_tree expr.now)))) result }
     ensures tick { session.new ≡ ticked session.old }
 {
     let value = value_of(session, number, expr, variables)?;

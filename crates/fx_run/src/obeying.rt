@@ -6,7 +6,7 @@ ghost use Rattle.fx_expr.specs.Views.{expr_tree};
 ghost use Rattle.fx_spec.specs.CommandTree.{CommandTree, block, count, count_block};
 ghost use Rattle.fx_spec.specs.Transaction.{binding, each_in, run, run_block, within};
 ghost use Rattle.fx_spec.specs.Views.{command_tree};
-ghost use Rattle.fx_run.specs.Scopes.{HasBlock, HasCommand, HasTurn, Keeps, KeepsTurn};
+ghost use Rattle.fx_run.specs.Scopes.{HasBlock, HasCommand, HasTurn, KeepsVariables, KeepsTurn};
 ghost use Rattle.fx_run.specs.Scopes.{Scopes, ScopesBlock};
 ghost use Rattle.fx_run.specs.Works.{IsSound, Obeys, root_of, standing_of};
 
@@ -90,7 +90,7 @@ fn within_block<R: Reader, L: Ledger>(
         (within (standing_of work.old)
         (run_block (root_of work.old) number (block commands.now) (standing_of work.old)))
         work.old work.new result }
-    ensures keeps { Keeps (block commands.now) work.old.variables work.new.variables result }
+    ensures keeps { KeepsVariables (block commands.now) work.old.variables work.new.variables result }
 {
     let len = work.variables.len();
     obey_all(work, number, commands)?;

@@ -7,7 +7,7 @@ use Rattle.fx_outside.specs.Tree.{Tree}
 use Rattle.fx_words.specs.Job.{RunJob}
 use Rattle.fx_command.specs.declared.status.Status.{Status}
 use Rattle.fx_command.specs.Out.{IsProperOut, LetsOut}
-use Rattle.fx_command.specs.Table.{Making, Command, CommandRow, leaving}
+use Rattle.fx_command.specs.Table.{Making, Command, CommandRow, leaving_folder}
 use Rattle.fx_inputs.specs.Inputs.{HasInputs}
 use Rattle.fx_inputs.specs.Reads.{LetsInputs}
 use Rattle.fx_inputs.specs.Readings.{inputs_reading}
@@ -15,7 +15,7 @@ use Rattle.fx_run_command.specs.Outcome.{IsOutcome}
 
 -- a run leaves the last filestore of a whole run at OUT, and prints its output
 abbrev pub run_making : RunJob → Making (Nodes × List ℕ)
-run_making j = leaving j.out (λ t nodes output. IsOutcome t j nodes output)
+run_making j = leaving_folder j.out (λ t nodes output. IsOutcome t j nodes output)
 
 -- before that it reads texts and a folder
 abbrev pub run_command : RunJob → Command (Nodes × List ℕ)

@@ -34,9 +34,9 @@ use Rattle.fx_board.specs.Log.{Log}
 use Rattle.fx_board.proofs.Settling.{stands_now}
 use Rattle.fx_sched.specs.declared.shell.Plan.{Plan}
 use Rattle.fx_sched.specs.declared.shell.Shell.{Shell}
-use Rattle.fx_sched.specs.Present.{AreNow, IsNowIn}
-use Rattle.fx_sched.specs.Shells.{looked_in, attempt_of, IsPlan, IsShell, IsReady, HasLooksOf}
-use Rattle.fx_sched.specs.Moves.{AllRead, HasLooked, HasSettled, HasRestarted, Moved, retry_of}
+use Rattle.fx_sched.specs.Present.{AreCurrent, IsNowIn}
+use Rattle.fx_sched.specs.Shells.{looked_in, attempt_of, IsShellPlan, IsShell, HasReadyPlan, HasLooksOf}
+use Rattle.fx_sched.specs.Moves.{AllRead, HasLooked, HasJoined, HasRestarted, Moved, retry_of}
 use Rattle.fx_sched.proofs.Looks.{all_read, once_more, true_more}
 
 abbrev Path : Type 0
@@ -141,12 +141,12 @@ abbrev pub shell_of : ℕ → ℕ → ReadList → Option Plan → List Retry �
 shell_of next looked reads plan retries =
     record { next = next; looked = looked; reads = reads; plan = plan; retries = retries }
 
-plan_in : (log : Log) (number : ℕ) (s : Shell) (o : Option Plan) (p : Plan) → o ≡ Some p → IfSome o (IsPlan log number s) → IsPlan log number s p
+plan_in : (log : Log) (number : ℕ) (s : Shell) (o : Option Plan) (p : Plan) → o ≡ Some p → IfSome o (IsShellPlan log number s) → IsShellPlan log number s p
 plan_in log number s None p e is = absurd (none-some p e)
-plan_in log number s (Some q) p e is = subst (IsPlan log number s) (same_Some q p e) is
+plan_in log number s (Some q) p e is = subst (IsShellPlan log number s) (same_Some q p e) is
 
 -- what the plan reads next comes next
-pub next_by_plan : (log : Log) (number : ℕ) (s : Shell) (p : Plan) (r : Row) → IsShell log number s → IsPlan log number s p → slice_get s.reads s.looked ≡ Some r → IsNext log.base (number, s.next) (looked_in s) r.0
+pub next_by_plan : (log : Log) (number : ℕ) (s : Shell) (p : Plan) (r : Row) → IsShell log number s → IsShellPlan log number s p → slice_get s.reads s.looked ≡ Some r → IsNext log.base (number, s.next) (looked_in s) r.0
 next_by_plan log number s p r is plan at =
     plan.foretold (looked_in s) r.0 r.1.0 (nodes_in (drop (suc s.looked) s.reads)) (omega arith) (nodes_split s.reads s.looked r at)
 
@@ -157,7 +157,7 @@ looked_on s position = record s { looked = s.looked + 1; reads = placed s.looked
 looks_on : (s : Shell) (r : Row) (position : ℕ) (node : Option Node) → slice_get s.reads s.looked ≡ Some r → r.1.0 ≡ node → looked_in (looked_on s position) ≡ looked_in s ++ (r.0, (node, position)) ∷ []
 looks_on s r position stood at now = ap (λ n. take n (placed s.looked position s.reads)) (add-one s.looked) ∙ (take_placed s.reads s.looked position r at ∙ ap (λ stood. looked_in s ++ (r.0, (stood, position)) ∷ []) now)
 
-plan_on : (log : Log) (number : ℕ) (s : Shell) (p : Plan) (r : Row) (position : ℕ) → IsShell log number s → IsPlan log number s p → slice_get s.reads s.looked ≡ Some r → IsPlan log number (looked_on s position) p
+plan_on : (log : Log) (number : ℕ) (s : Shell) (p : Plan) (r : Row) (position : ℕ) → IsShell log number s → IsShellPlan log number s p → slice_get s.reads s.looked ≡ Some r → IsShellPlan log number (looked_on s position) p
 plan_on log number s p r position is plan at = record {
   once = placed_once s.reads s.looked position plan.once;
   explained = explained_as log.base (attempt_of number s p) (placed s.looked position s.reads) (known_as (placed s.looked position s.reads) s.reads (nodes_placed s.reads s.looked position)) plan.explained;
@@ -168,9 +168,9 @@ plan_on log number s p r position is plan at = record {
   stood = λ i x from is_at. plan.stood i x (omega (arith, from)) (sym (later_placed s.reads s.looked i position (omega (arith, from))) ∙ is_at);
 }
 
-pub looked_shell : (log : Log) (number : ℕ) (s : Shell) (r : Row) → IsShell log number s → IsReady log s → slice_get s.reads s.looked ≡ Some r → IsShell log number (looked_on s (length log.order))
+pub looked_shell : (log : Log) (number : ℕ) (s : Shell) (r : Row) → IsShell log number s → HasReadyPlan log s → slice_get s.reads s.looked ≡ Some r → IsShell log number (looked_on s (length log.order))
 looked_shell log number s r is ready at =
-    let plan : IsPlan log number s ready.plan = plan_in log number s s.plan ready.plan ready.there is.plan in
+    let plan : IsShellPlan log number s ready.plan = plan_in log number s s.plan ready.plan ready.there is.plan in
     let next = next_by_plan log number s ready.plan r is plan at in
     let now = looks_on s r (length log.order) (get (last_state log) r.0) at (ready.now r at) in
     record {
@@ -179,12 +179,12 @@ looked_shell log number s r is ready at =
       once = subst IsReads (sym now) (once_more (looked_in s) r.0 (get (last_state log) r.0, length log.order) is.once next.unread);
       true_reads = subst (AreTrueReads log.base log.order) (sym now) (true_more log.base log.order (looked_in s) r.0 is.true_reads);
       fit = subst (ReadsFit log.base (number, s.next)) (sym now) (fits_more log.base (number, s.next) (looked_in s) r.0 (get (last_state log) r.0, length log.order) is.fit next.needed);
-      plan = subst (λ o. IfSome o (IsPlan log number (looked_on s (length log.order)))) (sym ready.there) (plan_on log number s ready.plan r (length log.order) is plan at);
+      plan = subst (λ o. IfSome o (IsShellPlan log number (looked_on s (length log.order)))) (sym ready.there) (plan_on log number s ready.plan r (length log.order) is plan at);
     }
 
-pub has_looked : (log : Log) (number : ℕ) (s : Shell) (r : Row) (path : Path) (position : ℕ) → IsShell log number s → IsReady log s → slice_get s.reads s.looked ≡ Some r → path ≡ r.0 → position ≡ length log.order → IsPath path → HasLooked log log number s path position (looked_on s position)
+pub has_looked : (log : Log) (number : ℕ) (s : Shell) (r : Row) (path : Path) (position : ℕ) → IsShell log number s → HasReadyPlan log s → slice_get s.reads s.looked ≡ Some r → path ≡ r.0 → position ≡ length log.order → IsPath path → HasLooked log log number s path position (looked_on s position)
 has_looked log number s r path position is ready at p e valid =
-    let plan : IsPlan log number s ready.plan = plan_in log number s s.plan ready.plan ready.there is.plan in
+    let plan : IsShellPlan log number s ready.plan = plan_in log number s s.plan ready.plan ready.there is.plan in
     record {
       log = refl;
       valid = valid;
@@ -208,7 +208,7 @@ unplanned log number s reads retries is within same = record {
 
 -- ---- a plan that was made
 
-now_at : (log : Log) (more : ReadList) (i : ℕ) (r : Row) → AreNow log more → slice_get more i ≡ Some r → r.1.0 ≡ get (last_state log) r.0
+now_at : (log : Log) (more : ReadList) (i : ℕ) (r : Row) → AreCurrent log more → slice_get more i ≡ Some r → r.1.0 ≡ get (last_state log) r.0
 now_at log [] i r now at = absurd (none-some r at)
 now_at log (x ∷ more) zero r now at = subst (λ (r : Row). r.1.0 ≡ get (last_state log) r.0) (same_Some x r at) now.0
 now_at log (x ∷ more) (suc i) r now at = now_at log more i r now.1 at
@@ -267,7 +267,7 @@ module _ (log : Log) (number : ℕ) (s : Shell) (is : IsShell log number s) (loo
       };
     }
 
-    pub planned_ready : IsReady log planned
+    pub planned_ready : HasReadyPlan log planned
     planned_ready = record { plan = made_plan; there = refl; now = λ r at. stood_now s.looked r (omega arith) at }
 
 -- the looks of a shell fit where the base is told in another way
@@ -275,7 +275,7 @@ pub fits_as : (log : Log) (number : ℕ) (s : Shell) (looks : ReadList) (base : 
 fits_as log number s looks base l b is = subst (λ base. ReadsFit base (number, s.next) looks) (sym b) (subst (ReadsFit log.base (number, s.next)) (sym l) is.fit)
 
 -- one read more that stands there now
-AreNow-last : (log : Log) (reads : ReadList) (path : Path) (node : Option Node) (position : ℕ) → node ≡ get (last_state log) path → AreNow log reads → AreNow log (reads ++ (path, (node, position)) ∷ [])
+AreNow-last : (log : Log) (reads : ReadList) (path : Path) (node : Option Node) (position : ℕ) → node ≡ get (last_state log) path → AreCurrent log reads → AreCurrent log (reads ++ (path, (node, position)) ∷ [])
 AreNow-last log [] path stood position there now = (there, tt)
 AreNow-last log (r ∷ reads) path stood position there now = (now.0, AreNow-last log reads path stood position there now.1)
 
@@ -288,16 +288,16 @@ now_added log old mid new path node position was added there = record {
 
 -- ---- a plan that still holds
 
-ready_since : (log : Log) (number : ℕ) (s : Shell) (p : Plan) (r : Row) → IsShell log number s → s.plan ≡ Some p → slice_get s.reads s.looked ≡ Some r → ((entry : ℕ) → p.made ≤ entry → Changes log.base log.order entry r.0 → ⊥) → IsReady log s
+ready_since : (log : Log) (number : ℕ) (s : Shell) (p : Plan) (r : Row) → IsShell log number s → s.plan ≡ Some p → slice_get s.reads s.looked ≡ Some r → ((entry : ℕ) → p.made ≤ entry → Changes log.base log.order entry r.0 → ⊥) → HasReadyPlan log s
 ready_since log number s p r is there at none =
-    let plan : IsPlan log number s p = plan_in log number s s.plan p there is.plan in
+    let plan : IsShellPlan log number s p = plan_in log number s s.plan p there is.plan in
     let now : r.1.0 ≡ get (last_state log) r.0 = plan.stood s.looked r (omega arith) at ∙ stands_now log.base log.order r.0 p.made plan.made none in
     record { plan = p; there = there; now = λ x here. subst (λ (x : Row). x.1.0 ≡ get (last_state log) x.0) (same_Some r x (sym at ∙ here)) now }
 
-pub ready_never : (log : Log) (number : ℕ) (s : Shell) (p : Plan) (r : Row) → IsShell log number s → s.plan ≡ Some p → slice_get s.reads s.looked ≡ Some r → NeverChanged log r.0 → IsReady log s
+pub ready_never : (log : Log) (number : ℕ) (s : Shell) (p : Plan) (r : Row) → IsShell log number s → s.plan ≡ Some p → slice_get s.reads s.looked ≡ Some r → NeverChanged log r.0 → HasReadyPlan log s
 ready_never log number s p r is there at never = ready_since log number s p r is there at (λ entry since changes. never entry changes)
 
-pub ready_before : (log : Log) (number : ℕ) (s : Shell) (p : Plan) (r : Row) (last : ℕ) → IsShell log number s → s.plan ≡ Some p → slice_get s.reads s.looked ≡ Some r → IsLastChange log r.0 last → last < p.made → IsReady log s
+pub ready_before : (log : Log) (number : ℕ) (s : Shell) (p : Plan) (r : Row) (last : ℕ) → IsShell log number s → s.plan ≡ Some p → slice_get s.reads s.looked ≡ Some r → IsLastChange log r.0 last → last < p.made → HasReadyPlan log s
 ready_before log number s p r last is there at change before = ready_since log number s p r is there at (λ entry since changes. change.last entry (omega (arith, since, before)) changes)
 
 own_next : (log : Log) (number txn : ℕ) → txn ≡ next_number log.order number → suc txn ≡ next_number (settled log number txn).order number
@@ -317,7 +317,7 @@ fresh_shell log number next reads retries e = record {
   plan = tt;
 }
 
-pub longer_plan : (log : Log) (number shell txn : ℕ) (s : Shell) (o : Option Plan) → IfSome o (IsPlan log number s) → IfSome o (IsPlan (settled log shell txn) number s)
+pub longer_plan : (log : Log) (number shell txn : ℕ) (s : Shell) (o : Option Plan) → IfSome o (IsShellPlan log number s) → IfSome o (IsShellPlan (settled log shell txn) number s)
 longer_plan log number shell txn s None is = tt
 longer_plan log number shell txn s (Some p) is = record {
   once = is.once;
@@ -329,11 +329,11 @@ longer_plan log number shell txn s (Some p) is = record {
 
 -- ---- the shell after a look, as the code leaves it
 
-pub looked_as : (log : Log) (number : ℕ) (s : Shell) (r : Row) (position : ℕ) (reads : ReadList) → IsShell log number s → IsReady log s → slice_get s.reads s.looked ≡ Some r → position ≡ length log.order → reads ≡ placed s.looked position s.reads → IsShell log number (shell_of s.next (s.looked + 1) reads s.plan s.retries)
+pub looked_as : (log : Log) (number : ℕ) (s : Shell) (r : Row) (position : ℕ) (reads : ReadList) → IsShell log number s → HasReadyPlan log s → slice_get s.reads s.looked ≡ Some r → position ≡ length log.order → reads ≡ placed s.looked position s.reads → IsShell log number (shell_of s.next (s.looked + 1) reads s.plan s.retries)
 looked_as log number s r position reads is ready at e same =
     subst (λ rs. IsShell log number (shell_of s.next (s.looked + 1) rs s.plan s.retries)) (sym (same ∙ ap (λ p. placed s.looked p s.reads) e)) (looked_shell log number s r is ready at)
 
-pub has_looked_as : (log : Log) (number : ℕ) (s : Shell) (r : Row) (path : Path) (position : ℕ) (reads : ReadList) → IsShell log number s → IsReady log s → slice_get s.reads s.looked ≡ Some r → path ≡ r.0 → position ≡ length log.order → IsPath path → reads ≡ placed s.looked position s.reads → HasLooked log log number s path position (shell_of s.next (s.looked + 1) reads s.plan s.retries)
+pub has_looked_as : (log : Log) (number : ℕ) (s : Shell) (r : Row) (path : Path) (position : ℕ) (reads : ReadList) → IsShell log number s → HasReadyPlan log s → slice_get s.reads s.looked ≡ Some r → path ≡ r.0 → position ≡ length log.order → IsPath path → reads ≡ placed s.looked position s.reads → HasLooked log log number s path position (shell_of s.next (s.looked + 1) reads s.plan s.retries)
 has_looked_as log number s r path position reads is ready at p e valid same =
     subst (λ rs. HasLooked log log number s path position (shell_of s.next (s.looked + 1) rs s.plan s.retries)) (sym same) (has_looked log number s r path position is ready at p e valid)
 
@@ -362,16 +362,16 @@ module _ (log new : Log) (number : ℕ) (s : Shell) (is : IsShell log number s) 
   refused_shell reads same r =
       subst (λ o. IsShell new number (shell_of s.next s.looked reads o retries)) (sym none) (subst (λ log. IsShell log number (shell_of s.next s.looked reads None retries)) (sym same) (unplanned log number s reads retries is (omega (arith, is.within, ap length r)) (ap (take s.looked) r)))
 
-module _ (log new : Log) (number : ℕ) (s t : Shell) (is : IsShell log number s) (ready : IsReady log s) (past : length s.reads ≤ s.looked) (reads : ReadList) (r : reads ≡ s.reads) where
+module _ (log new : Log) (number : ℕ) (s t : Shell) (is : IsShell log number s) (ready : HasReadyPlan log s) (past : length s.reads ≤ s.looked) (reads : ReadList) (r : reads ≡ s.reads) where
   whole : reads ≡ looked_in s
   whole = r ∙ sym (take_whole s.reads s.looked past)
 
   ready_all : AllRead log.base (number, s.next) (looked_in s)
   ready_all =
-      let plan : IsPlan log number s ready.plan = plan_in log number s s.plan ready.plan ready.there is.plan in
+      let plan : IsShellPlan log number s ready.plan = plan_in log number s s.plan ready.plan ready.there is.plan in
       subst (AllRead log.base (number, s.next)) (sym (take_whole s.reads s.looked past)) (all_read log.base (attempt_of number s ready.plan) plan.explained)
 
-  pub has_settled : (entry : ℕ) → IsFreshReads log.base log.order reads → entry ≡ length log.order → new ≡ settled log number s.next → t.next ≡ s.next + 1 → looked_in t ≡ [] → t.retries ≡ s.retries → HasSettled log new number s entry t
+  pub has_settled : (entry : ℕ) → IsFreshReads log.base log.order reads → entry ≡ length log.order → new ≡ settled log number s.next → t.next ≡ s.next + 1 → looked_in t ≡ [] → t.retries ≡ s.retries → HasJoined log new number s entry t
   has_settled entry fresh now grown txn none retries = record {
     ready = ready_all;
     fresh = subst (IsFreshReads log.base log.order) whole fresh;

@@ -35,7 +35,7 @@ pub record HasLooked (old new : Log) (number : ℕ) (s : Shell) (path : List (Li
   pub retries : t.retries ≡ s.retries
 
 -- the shell's transaction has joined the order, and it goes on to the next one
-pub record HasSettled (old new : Log) (number : ℕ) (s : Shell) (entry : ℕ) (t : Shell) : Type 0 where
+pub record HasJoined (old new : Log) (number : ℕ) (s : Shell) (entry : ℕ) (t : Shell) : Type 0 where
   pub ready : AllRead old.base (number, s.next) (looked_in s)
   pub fresh : IsFreshReads old.base old.order (looked_in s)
   pub now : entry ≡ length old.order
@@ -59,5 +59,5 @@ pub record HasRestarted (old new : Log) (number : ℕ) (s : Shell) (entry : ℕ)
 -- an event of the shell, with the log and the shell before and after it
 abbrev pub Moved : Log → Log → ℕ → Shell → Event → Shell → Type 0
 Moved old new number s (event.Look k path position) t = (k ≡ number) × HasLooked old new number s path position t
-Moved old new number s (event.Settled k entry) t = (k ≡ number) × HasSettled old new number s entry t
+Moved old new number s (event.Settled k entry) t = (k ≡ number) × HasJoined old new number s entry t
 Moved old new number s (event.Conflict k entry path) t = (k ≡ number) × HasRestarted old new number s entry path t

@@ -8,15 +8,15 @@ use Rattle.fx_board.specs.Board.{last_state}
 use Rattle.fx_board.specs.Log.{Log}
 
 -- each of the reads is what stands at its path after all entries
-abbrev pub AreNow : Log → ReadList → Type 0
-AreNow log [] = ⊤
-AreNow log (r ∷ reads) = (r.1.0 ≡ get (last_state log) r.0) × AreNow log reads
+abbrev pub AreCurrent : Log → ReadList → Type 0
+AreCurrent log [] = ⊤
+AreCurrent log (r ∷ reads) = (r.1.0 ≡ get (last_state log) r.0) × AreCurrent log reads
 
 -- the later reads are the earlier ones, and then some of what stands there now
 pub record IsNowIn (log : Log) (old new : ReadList) : Type 0 where
   pub more : ReadList
   pub kept : new ≡ old ++ more
-  pub now : AreNow log more
+  pub now : AreCurrent log more
 
 pub nothing_new : (log : Log) (reads : ReadList) → IsNowIn log reads reads
 nothing_new log reads = record { more = []; kept = sym (append-nil reads); now = tt }

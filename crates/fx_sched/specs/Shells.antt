@@ -34,7 +34,7 @@ StoodThen log made from reads =
 
 -- the reads are those of the shell's transaction as it comes to the end by the plan: behind the looks they come in the order in
 -- which it consults their paths, and as they stood when the plan was made
-pub record IsPlan (log : Log) (number : ℕ) (s : Shell) (p : Plan) : Type 0 where
+pub record IsShellPlan (log : Log) (number : ℕ) (s : Shell) (p : Plan) : Type 0 where
   pub once : IsReads s.reads
   pub explained : IsExplained log.base (attempt_of number s p)
   pub foretold : Foretells log.base (number, s.next) (looked_in s) s.reads
@@ -49,10 +49,10 @@ pub record IsShell (log : Log) (number : ℕ) (s : Shell) : Type 0 where
   pub once : IsReads (looked_in s)
   pub true_reads : AreTrueReads log.base log.order (looked_in s)
   pub fit : ReadsFit log.base (number, s.next) (looked_in s)
-  pub plan : IfSome s.plan (IsPlan log number s)
+  pub plan : IfSome s.plan (IsShellPlan log number s)
 
 -- the shell has a plan, and what this reads next stands there now
-pub record IsReady (log : Log) (s : Shell) : Type 0 where
+pub record HasReadyPlan (log : Log) (s : Shell) : Type 0 where
   pub plan : Plan
   pub there : s.plan ≡ Some plan
   pub now : (r : List (List ℕ) × (Option Node × ℕ)) → slice_get s.reads s.looked ≡ Some r → r.1.0 ≡ get (last_state log) r.0

@@ -1,7 +1,7 @@
 //! One step of one shell over a log.
 ghost use Rattle.std.specs.Prelude.{◌≡◌, ◌<◌, ◌≤◌, ◌+◌, ◌^◌, ◌++◌, ◌∷◌, [], true, IfOk, OnErr, OnOk, IsSome, length};
 ghost use Rattle.fx_spec.specs.Plans.{txn_of};
-ghost use Rattle.fx_sched.specs.Shells.{IsShell, IsReady, HasLooksOf};
+ghost use Rattle.fx_sched.specs.Shells.{IsShell, HasReadyPlan, HasLooksOf};
 ghost use Rattle.fx_sched.specs.Moves.{Moved, retry_of};
 
 use crate::present::Present;
@@ -44,7 +44,7 @@ fn make_ready(alloc: Global, board: &Board, number: u32, shell: &mut Shell) -> R
     requires left { IsSome (txn_of board.now.base.plan (number, shell.old.next)) }
     ensures shell { IsShell board.now number shell.new }
     ensures looks { HasLooksOf shell.old shell.new }
-    ensures ready { OnOk result (IsReady board.now shell.new) }
+    ensures ready { OnOk result (HasReadyPlan board.now shell.new) }
 {
     if is_ready(board, number, shell) {
         return Ok(());
@@ -55,7 +55,7 @@ fn make_ready(alloc: Global, board: &Board, number: u32, shell: &mut Shell) -> R
 /// Whether the shell has a plan, and what it reads next has not been changed since it was made.
 fn is_ready(board: &Board, number: u32, shell: &Shell) -> bool
     requires { IsShell board.now number shell.now }
-    ensures { result ≡ true → IsReady board.now shell.now }
+    ensures { result ≡ true → HasReadyPlan board.now shell.now }
 {
     let Some(plan) = &shell.plan else {
         return false;
@@ -75,7 +75,7 @@ fn plan(alloc: Global, board: &Board, number: u32, shell: &mut Shell) -> Result<
     requires left { IsSome (txn_of board.now.base.plan (number, shell.old.next)) }
     ensures shell { IsShell board.now number shell.new }
     ensures looks { HasLooksOf shell.old shell.new }
-    ensures ready { OnOk result (IsReady board.now shell.new) }
+    ensures ready { OnOk result (HasReadyPlan board.now shell.new) }
 {
     let mut reads = mem::replace(&mut shell.reads, Reads::new(alloc));
     reads.truncate(shell.looked);
@@ -111,7 +111,7 @@ fn plan(alloc: Global, board: &Board, number: u32, shell: &mut Shell) -> Result<
 /// Looks at the path that the plan reads next.
 fn look(alloc: Global, board: &Board, number: u32, shell: &mut Shell) -> Result<Event, NoMemory>
     requires shell { IsShell board.now number shell.old }
-    requires ready { IsReady board.now shell.old }
+    requires ready { HasReadyPlan board.now shell.old }
     requires more { shell.old.looked < length shell.old.reads }
     ensures shell { IsShell board.now number shell.new }
     ensures ok { IfOk result (λ event. Moved board.now board.now number shell.old event shell.new) }
@@ -140,7 +140,7 @@ fn settle(
     shell: &mut Shell,
 ) -> Result<Event, NoMemory>
     requires shell { IsShell board.old number shell.old }
-    requires ready { IsReady board.old shell.old }
+    requires ready { HasReadyPlan board.old shell.old }
     requires all { length shell.old.reads ≤ shell.old.looked }
     requires room { shell.old.next + 1 < 2 ^ 32 }
     ensures shell { IsShell board.new number shell.new }

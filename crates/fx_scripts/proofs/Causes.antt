@@ -19,7 +19,7 @@ use Rattle.fx_spec.specs.WellShaped.{IsBlock, IsScript}
 use Rattle.fx_command.specs.declared.status.TextFault.{TextFault}
 use Rattle.fx_command.specs.declared.status.TextFault.TheVariants as fault
 use Rattle.fx_scripts.specs.Faults.{of_parse, of_check}
-use Rattle.fx_scripts.specs.Scripted.{HasCause, IsNoScriptFor, IsUnscripted}
+use Rattle.fx_scripts.specs.Scripted.{HasScriptCause, IsNoScriptFor, IsUnscripted}
 
 abbrev Txns : Type 0
 Txns = List (List CommandTree)
@@ -28,7 +28,7 @@ Txns = List (List CommandTree)
 abbrev OnlyMemory : List ℕ → ParseFault → Type 0
 OnlyMemory text f = (txns : Txns) → texts.IsScript text txns → f ≡ parse.NoMemory
 
-refused : (text : List ℕ) (before : ℕ) (cause : TextFault) (f : ParseFault) → (f ≡ parse.NoMemory → ⊥) → OnlyMemory text f → HasCause text before cause → IsNoScriptFor text before cause
+refused : (text : List ℕ) (before : ℕ) (cause : TextFault) (f : ParseFault) → (f ≡ parse.NoMemory → ⊥) → OnlyMemory text f → HasScriptCause text before cause → IsNoScriptFor text before cause
 refused text before cause f isnt only has = record { none = λ txns is. isnt (only txns is.read); cause = has }
 
 pub not_parsed : (text : List ℕ) (before : ℕ) (f : ParseFault) → OnlyMemory text f → IsRefused scripts text f → IsUnscripted text before (of_parse f)
@@ -46,7 +46,7 @@ no_fault before txns shapes few =
 both : (before : ℕ) (txns : Txns) (first : Fault) → checked_script before txns ≡ Err first → checked_script before txns ≡ Ok txns → ⊥
 both before txns first found fine = let no : Ok txns ≡ Err first = sym fine ∙ found in cc
 
-faulty : (text : List ℕ) (before : ℕ) (txns : Txns) (cause : TextFault) (first : Fault) → ((other : Txns) → texts.IsScript text other → txns ≡ other) → checked_script before txns ≡ Err first → HasCause text before cause → IsNoScriptFor text before cause
+faulty : (text : List ℕ) (before : ℕ) (txns : Txns) (cause : TextFault) (first : Fault) → ((other : Txns) → texts.IsScript text other → txns ≡ other) → checked_script before txns ≡ Err first → HasScriptCause text before cause → IsNoScriptFor text before cause
 faulty text before txns cause first only found has = record {
   none = λ other is. both before other first (ap (checked_script before) (sym (only other is.read)) ∙ found) (no_fault before other is.shapes is.few);
   cause = has;

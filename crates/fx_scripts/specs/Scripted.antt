@@ -22,27 +22,27 @@ pub record Scripts (text : List ℕ) (before : ℕ) (txns : List (List CommandTr
   pub few : before + length txns ≤ txn_limit
 
 -- the text stands for transactions whose first fault is this one
-pub record HasFault (text : List ℕ) (before : ℕ) (first : Fault) : Type 0 where
+pub record HasScriptFault (text : List ℕ) (before : ℕ) (first : Fault) : Type 0 where
   pub txns : List (List CommandTree)
   pub read : texts.IsScript text txns
   pub found : checked_script before txns ≡ Err first
 
 -- the first cause for which the text is refused: its length comes first, then its tokens, then its form, then the number of
 -- transactions, then names and shapes
-abbrev pub HasCause : List ℕ → ℕ → TextFault → Type 0
-HasCause text before fault.TooLarge = IsRefused scripts text parse.TooLarge
-HasCause text before (fault.BadToken place) = IsRefused scripts text (parse.BadToken place)
-HasCause text before (fault.Unexpected place) = IsRefused scripts text (parse.Unexpected place)
-HasCause text before (fault.TooNested place) = IsRefused scripts text (parse.TooNested place)
-HasCause text before (fault.Unknown word) = HasFault text before (Fault.unknown word)
-HasCause text before (fault.TypeDiffers expected found) = HasFault text before (Fault.differs (shape_tree expected) (shape_tree found))
-HasCause text before (fault.Repeated word) = HasFault text before (Fault.repeated word)
-HasCause text before fault.TooMany = HasFault text before Fault.too_many
+abbrev pub HasScriptCause : List ℕ → ℕ → TextFault → Type 0
+HasScriptCause text before fault.TooLarge = IsRefused scripts text parse.TooLarge
+HasScriptCause text before (fault.BadToken place) = IsRefused scripts text (parse.BadToken place)
+HasScriptCause text before (fault.Unexpected place) = IsRefused scripts text (parse.Unexpected place)
+HasScriptCause text before (fault.TooNested place) = IsRefused scripts text (parse.TooNested place)
+HasScriptCause text before (fault.Unknown word) = HasScriptFault text before (Fault.unknown word)
+HasScriptCause text before (fault.TypeDiffers expected found) = HasScriptFault text before (Fault.differs (shape_tree expected) (shape_tree found))
+HasScriptCause text before (fault.Repeated word) = HasScriptFault text before (Fault.repeated word)
+HasScriptCause text before fault.TooMany = HasScriptFault text before Fault.too_many
 
 -- the text stands for no script, for this cause
 pub record IsNoScriptFor (text : List ℕ) (before : ℕ) (first : TextFault) : Type 0 where
   pub none : (txns : List (List CommandTree)) → Scripts text before txns → ⊥
-  pub cause : HasCause text before first
+  pub cause : HasScriptCause text before first
 
 -- the text stands for no script; or memory ran out
 abbrev pub IsUnscripted : List ℕ → ℕ → ScriptFault → Type 0

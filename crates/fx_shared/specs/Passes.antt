@@ -27,8 +27,8 @@ abbrev pub HasLegal : LogView → Type 0
 HasLegal v = HasBase v (λ base. IsLegal base v.seen)
 
 -- each read is of what stood there after so many of the entries that the pass has seen
-abbrev pub AreTrueFor : LogView → ReadList → Type 0
-AreTrueFor v reads = HasBase v (λ base. AreTrueReads base v.seen reads)
+abbrev pub AreTrueInLog : LogView → ReadList → Type 0
+AreTrueInLog v reads = HasBase v (λ base. AreTrueReads base v.seen reads)
 
 -- the pass has seen what it had seen, and maybe more; none of it is a new entry of its own
 pub record HasSeenMore (old new : LogView) : Type 0 where
@@ -59,6 +59,6 @@ log_over v base = record { base = base; order = v.seen }
 
 -- the attempt is handed back; a conflict names the last of the entries that the pass has seen to change the least read path
 -- that one of them has changed at or after its look
-abbrev pub IsRefused : LogView → Attempt → Settle → Type 0
-IsRefused v attempt (settle.Conflict entry path back) = (back ≡ attempt) × HasBase v (λ base. IsNamed (log_over v base) attempt.reads entry path)
-IsRefused v attempt (settle.NoMemory back) = back ≡ attempt
+abbrev pub IsHandedBack : LogView → Attempt → Settle → Type 0
+IsHandedBack v attempt (settle.Conflict entry path back) = (back ≡ attempt) × HasBase v (λ base. IsNamed (log_over v base) attempt.reads entry path)
+IsHandedBack v attempt (settle.NoMemory back) = back ≡ attempt

@@ -10,7 +10,7 @@ ghost use Rattle.fx_spec.specs.Order.{state};
 ghost use Rattle.fx_machine.specs.Explained.{IsExplained};
 ghost use Rattle.fx_machine.specs.Machine.{next_number};
 ghost use Rattle.fx_board.specs.Board.{IsLog};
-ghost use Rattle.fx_shared.specs.Passes.{HasBase, HasLegal, AreTrueFor, HasSeenMore, IsLook, HasSettled, IsRefused};
+ghost use Rattle.fx_shared.specs.Passes.{HasBase, HasLegal, AreTrueInLog, HasSeenMore, IsLook, HasSettled, IsHandedBack};
 ghost use Rattle.fx_shared.specs.Shared.{IsPassOf, IsReadyPass};
 
 use crate::logged::{Logged, Versions};
@@ -99,12 +99,12 @@ impl<T: Logged> Shares<T> {
         requires whose { (view pass.old).number ≡ Some attempt.shell }
         requires next { attempt.txn ≡ (view pass.old).mine }
         requires explained { HasBase (view pass.old) (λ base. IsExplained base attempt) }
-        requires reads { AreTrueFor (view pass.old) attempt.reads }
+        requires reads { AreTrueInLog (view pass.old) attempt.reads }
         ensures ready { IsReadyPass self.now pass.new }
         ensures legal { HasLegal (view pass.new) }
         ensures settled { IfOk result (HasSettled (view pass.old) (view pass.new) attempt) }
         ensures seen { OnErr result (HasSeenMore (view pass.old) (view pass.new)) }
-        ensures refused { IfErr result (IsRefused (view pass.new) attempt) }
+        ensures refused { IfErr result (IsHandedBack (view pass.new) attempt) }
     {
         let mut log = self.turn.take(rt, pass);
         let answer = log.settle_keeping_reads(alloc, attempt);

@@ -22,27 +22,27 @@ pub record Describes (text : List ℕ) (spec : SpecTree) : Type 0 where
   pub means : spec ≡ text_tree written
 
 -- the text stands for a description, whose first fault of names and shapes is this one
-pub record HasFault (text : List ℕ) (first : Fault) : Type 0 where
+pub record HasDescriptionFault (text : List ℕ) (first : Fault) : Type 0 where
   pub written : TextTree
   pub read : texts.IsDescription text written
   pub found : checked_text written ≡ Err first
 
 -- the first cause for which the text is refused: its length comes first, then its tokens, then its form, then names and
 -- shapes
-abbrev pub HasCause : List ℕ → TextFault → Type 0
-HasCause text fault.TooLarge = IsRefusedDescription text parse.TooLarge
-HasCause text (fault.BadToken place) = IsRefusedDescription text (parse.BadToken place)
-HasCause text (fault.Unexpected place) = IsRefusedDescription text (parse.Unexpected place)
-HasCause text (fault.TooNested place) = IsRefusedDescription text (parse.TooNested place)
-HasCause text (fault.Unknown word) = HasFault text (Fault.unknown word)
-HasCause text (fault.TypeDiffers expected found) = HasFault text (Fault.differs (shape_tree expected) (shape_tree found))
-HasCause text (fault.Repeated word) = HasFault text (Fault.repeated word)
-HasCause text fault.TooMany = HasFault text Fault.too_many
+abbrev pub HasDescriptionCause : List ℕ → TextFault → Type 0
+HasDescriptionCause text fault.TooLarge = IsRefusedDescription text parse.TooLarge
+HasDescriptionCause text (fault.BadToken place) = IsRefusedDescription text (parse.BadToken place)
+HasDescriptionCause text (fault.Unexpected place) = IsRefusedDescription text (parse.Unexpected place)
+HasDescriptionCause text (fault.TooNested place) = IsRefusedDescription text (parse.TooNested place)
+HasDescriptionCause text (fault.Unknown word) = HasDescriptionFault text (Fault.unknown word)
+HasDescriptionCause text (fault.TypeDiffers expected found) = HasDescriptionFault text (Fault.differs (shape_tree expected) (shape_tree found))
+HasDescriptionCause text (fault.Repeated word) = HasDescriptionFault text (Fault.repeated word)
+HasDescriptionCause text fault.TooMany = HasDescriptionFault text Fault.too_many
 
 -- the text describes nothing, for this cause
 pub record IsRefusedFor (text : List ℕ) (first : TextFault) : Type 0 where
   pub none : (spec : SpecTree) → Describes text spec → ⊥
-  pub cause : HasCause text first
+  pub cause : HasDescriptionCause text first
 
 -- the text describes nothing; or memory ran out
 abbrev pub IsUndescribed : List ℕ → DescriptionFault → Type 0

@@ -9,19 +9,19 @@ use Rattle.fx_show.specs.declared.fault.DescriptionFault.{DescriptionFault}
 use Rattle.fx_show.specs.declared.fault.DescriptionFault.TheVariants.{Refused, NoMemory}
 use Rattle.fx_command.specs.declared.status.TextFault.TheVariants as fault
 
-abbrev pub of_parse : ParseFault → DescriptionFault
-of_parse parse.TooLarge = Refused fault.TooLarge
-of_parse (parse.BadToken place) = Refused (fault.BadToken place)
-of_parse (parse.Unexpected place) = Refused (fault.Unexpected place)
-of_parse (parse.TooNested place) = Refused (fault.TooNested place)
-of_parse parse.NoMemory = NoMemory
+abbrev pub description_of_parse : ParseFault → DescriptionFault
+description_of_parse parse.TooLarge = Refused fault.TooLarge
+description_of_parse (parse.BadToken place) = Refused (fault.BadToken place)
+description_of_parse (parse.Unexpected place) = Refused (fault.Unexpected place)
+description_of_parse (parse.TooNested place) = Refused (fault.TooNested place)
+description_of_parse parse.NoMemory = NoMemory
 
-abbrev pub of_check : CheckFault → DescriptionFault
-of_check (check.Unknown word) = Refused (fault.Unknown word)
-of_check (check.TypeDiffers expected found) = Refused (fault.TypeDiffers expected found)
-of_check (check.Repeated word) = Refused (fault.Repeated word)
-of_check check.TooMany = Refused fault.TooMany
-of_check check.NoMemory = NoMemory
+abbrev pub description_of_check : CheckFault → DescriptionFault
+description_of_check (check.Unknown word) = Refused (fault.Unknown word)
+description_of_check (check.TypeDiffers expected found) = Refused (fault.TypeDiffers expected found)
+description_of_check (check.Repeated word) = Refused (fault.Repeated word)
+description_of_check check.TooMany = Refused fault.TooMany
+description_of_check check.NoMemory = NoMemory
 
 -- the status of a text, that of SPEC, that gives no description
 abbrev pub status_of_fault : DescriptionFault → Status

@@ -17,9 +17,9 @@ pub enum DescriptionFault {
 
 impl From<ParseFault> for DescriptionFault {
     ghost use Rattle.std.specs.Prelude.{◌≡◌};
-    ghost use Rattle.fx_show.specs.Faults.{of_parse};
+    ghost use Rattle.fx_show.specs.Faults.{description_of_parse};
 
-    ghost from_gives = { λ fault refused. refused ≡ of_parse fault };
+    ghost from_gives = { λ fault refused. refused ≡ description_of_parse fault };
 
     fn from(fault: ParseFault) -> DescriptionFault {
         match fault {
@@ -36,9 +36,9 @@ impl From<ParseFault> for DescriptionFault {
 
 impl From<CheckFault> for DescriptionFault {
     ghost use Rattle.std.specs.Prelude.{◌≡◌};
-    ghost use Rattle.fx_show.specs.Faults.{of_check};
+    ghost use Rattle.fx_show.specs.Faults.{description_of_check};
 
-    ghost from_gives = { λ fault refused. refused ≡ of_check fault };
+    ghost from_gives = { λ fault refused. refused ≡ description_of_check fault };
 
     fn from(fault: CheckFault) -> DescriptionFault {
         match fault {

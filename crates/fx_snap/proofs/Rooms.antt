@@ -17,7 +17,7 @@ use Rattle.fx_store.proofs.Tables.{path_symm}
 use Rattle.fx_store.proofs.Overlays.{none_above}
 use Rattle.fx_snap.specs.declared.versions.Version.{Version}
 use Rattle.fx_snap.specs.Versions.{version_of}
-use Rattle.fx_snap.specs.Tables.{Listed, Table, list_in, listed, versions_in, IsSpare, HasRoom, HaveRoom, IsRoomier, HasOneMore}
+use Rattle.fx_snap.specs.Tables.{Listed, VersionTable, list_in, listed, versions_in, IsSpare, HasRoom, HaveRoom, IsRoomier, HasOneMore}
 
 abbrev Path : Type 0
 Path = List (List ℕ)
@@ -26,7 +26,7 @@ abbrev IsAt : Path → Path → Bool
 IsAt path q = eq_by_cmp path_cmp path q
 
 -- one path's list is replaced
-module _ (old new : Table) (path : Path) (w : Listed) (updates : (q : Path) → list_in new q ≡ cond (IsAt path q) (Some w) (list_in old q)) where
+module _ (old new : VersionTable) (path : Path) (w : Listed) (updates : (q : Path) → list_in new q ≡ cond (IsAt path q) (Some w) (list_in old q)) where
   pub roomier : w.items ≡ versions_in old path → (HasRoom old path → IsSpare w) → IsRoomier old new
   roomier same room = record {
     same = λ q. ap listed (updates q) ∙ items q (IsAt path q) refl;
@@ -57,29 +57,29 @@ module _ (old new : Table) (path : Path) (w : Listed) (updates : (q : Path) → 
     others = λ other apart. updates other ∙ ap (λ b. cond b (Some w) (list_in old other)) apart;
   }
 
-pub roomier_then : (old mid new : Table) → IsRoomier old mid → IsRoomier mid new → IsRoomier old new
+pub roomier_then : (old mid new : VersionTable) → IsRoomier old mid → IsRoomier mid new → IsRoomier old new
 roomier_then old mid new a b = record { same = λ q. b.same q ∙ a.same q; kept = λ q had. b.kept q (a.kept q had) }
 
 -- ---- room for one change more
 
-abbrev HasRoomFor : Table → Change → Type 0
+abbrev HasRoomFor : VersionTable → Change → Type 0
 HasRoomFor table c = HasRoom table c.path
 
-pub room_first : (table : Table) (c : Change) (cs : List Change) → HaveRoom table (c ∷ cs) → HasRoom table c.path
+pub room_first : (table : VersionTable) (c : Change) (cs : List Change) → HaveRoom table (c ∷ cs) → HasRoom table c.path
 room_first table c cs room = All-head (HasRoomFor table) c cs room
 
-pub rooms_more : (old new : Table) (cs : List Change) (i : ℕ) (c : Change) → IsRoomier old new → i < length cs → c ≡ get_or cs i c → HasRoom new c.path → HaveRoom old (take i cs) → HaveRoom new (take (i + 1) cs)
+pub rooms_more : (old new : VersionTable) (cs : List Change) (i : ℕ) (c : Change) → IsRoomier old new → i < length cs → c ≡ get_or cs i c → HasRoom new c.path → HaveRoom old (take i cs) → HaveRoom new (take (i + 1) cs)
 rooms_more old new cs i c more within at here before =
     let one : i + 1 ≡ suc i = omega arith in
     subst (HaveRoom new) (sym (ap (λ k. take k cs) one ∙ (take-suc cs i c within ∙ ap (λ d. take i cs ++ d ∷ []) (sym at))))
     (All-push (HasRoomFor new) (take i cs) c (All-weaker (HasRoomFor old) (HasRoomFor new) (λ d. more.kept d.path) (take i cs) before) here)
 
-pub rooms_all : (table : Table) (cs : List Change) (i : ℕ) → length cs ≤ i → HaveRoom table (take i cs) → HaveRoom table cs
+pub rooms_all : (table : VersionTable) (cs : List Change) (i : ℕ) → length cs ≤ i → HaveRoom table (take i cs) → HaveRoom table cs
 rooms_all table cs i past room = subst (HaveRoom table) (take_all i cs past) room
 
 -- ---- one change made
 
-module _ (old new : Table) (path : Path) (version : Version) (one : HasOneMore old new path version) where
+module _ (old new : VersionTable) (path : Path) (version : Version) (one : HasOneMore old new path version) where
   rooms_of : (cs : List Change) → AllByRecursion (λ q. path_cmp path q ≡ Less) (changed_paths cs) → HaveRoom old cs → HaveRoom new cs
   rooms_of [] above room = All-nil (HasRoomFor new)
   rooms_of (c ∷ cs) above room =
@@ -87,7 +87,7 @@ module _ (old new : Table) (path : Path) (version : Version) (one : HasOneMore o
       (subst (λ o. IsSomeAnd o IsSpare) (sym (one.others c.path (ap is_eq above.0))) (All-head (HasRoomFor old) c cs room))
       (rooms_of cs above.1 (All-tail (HasRoomFor old) c cs room))
 
-module _ (old new : Table) (c : Change) (cs : List Change) (entry : ℕ) (one : HasOneMore old new c.path (record { entry = entry; node = c.node })) where
+module _ (old new : VersionTable) (c : Change) (cs : List Change) (entry : ℕ) (one : HasOneMore old new c.path (record { entry = entry; node = c.node })) where
   pub rooms_left : IsChanges (c ∷ cs) → HaveRoom old (c ∷ cs) → HaveRoom new cs
   unfolding IsStrictlySortedBy
   rooms_left up room = rooms_of old new c.path (record { entry = entry; node = c.node }) one cs up.0 (All-tail (HasRoomFor old) c cs room)

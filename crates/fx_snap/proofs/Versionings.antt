@@ -24,7 +24,7 @@ use Rattle.fx_board.specs.Log.{Log}
 use Rattle.fx_board.proofs.Settling.{agrees_now, next_state}
 use Rattle.fx_snap.specs.declared.versions.Version.{Version}
 use Rattle.fx_snap.specs.Versions.{AreAscending, version_before, version_at, version_of}
-use Rattle.fx_snap.specs.Tables.{Table, versions_in, AreAdded}
+use Rattle.fx_snap.specs.Tables.{VersionTable, versions_in, AreAdded}
 use Rattle.fx_snap.specs.Kept.{HasVersions}
 
 abbrev Path : Type 0
@@ -78,7 +78,7 @@ at_first : (base : BaseTree) (i : ℕ) → i ≤ 0 → state base [] i ≡ base.
 unfolding state
 at_first base i h = let none : i ≡ 0 = omega (arith, h) in rw none refl
 
-pub begins : (base : BaseTree) (table : Table) → table ≡ [] → HasVersions (started base) table
+pub begins : (base : BaseTree) (table : VersionTable) → table ≡ [] → HasVersions (started base) table
 begins base table none = subst (HasVersions (started base)) (sym none) (record {
   at = λ path i h. ap (λ nodes. get nodes path) (at_first base i h);
   below = λ path. All-nil (IsBelow 0);
@@ -86,14 +86,14 @@ begins base table none = subst (HasVersions (started base)) (sym none) (record {
 })
 
 -- it is one of the tables in which each path has the same versions
-pub same_versions : (log : Log) (old new : Table) → HasVersions log old → ((path : Path) → versions_in new path ≡ versions_in old path) → HasVersions log new
+pub same_versions : (log : Log) (old new : VersionTable) → HasVersions log old → ((path : Path) → versions_in new path ≡ versions_in old path) → HasVersions log new
 same_versions log old new has same = record {
   at = λ path i h. has.at path i h ∙ ap (λ vs. version_at (get log.base.loaded path) vs i) (sym (same path));
   below = λ path. subst (All (IsBelow (length log.order))) (sym (same path)) (has.below path);
   ascend = λ path. subst AreAscending (sym (same path)) (has.ascend path);
 }
 
-module _ (log : Log) (old new : Table) (a : Attempt) (has : HasVersions log old) (is : IsLog log) (explained : IsExplained log.base a) (next : a.txn ≡ next_number log.order a.shell) (reads : AreTrueReads log.base log.order a.reads) (fresh : IsFreshReads log.base log.order a.reads) (up : IsChanges a.changes) (added : AreAdded old new a.changes (length log.order)) where
+module _ (log : Log) (old new : VersionTable) (a : Attempt) (has : HasVersions log old) (is : IsLog log) (explained : IsExplained log.base a) (next : a.txn ≡ next_number log.order a.shell) (reads : AreTrueReads log.base log.order a.reads) (fresh : IsFreshReads log.base log.order a.reads) (up : IsChanges a.changes) (added : AreAdded old new a.changes (length log.order)) where
   abbrev n : ℕ
   n = length log.order
 

@@ -5,10 +5,10 @@ use Rattle.fx_board.specs.Board.{state_at}
 use Rattle.fx_board.specs.Log.{Log}
 use Rattle.fx_snap.specs.declared.versions.Version.{Version}
 use Rattle.fx_snap.specs.Versions.{AreAscending, version_at}
-use Rattle.fx_snap.specs.Tables.{Table, versions_in}
+use Rattle.fx_snap.specs.Tables.{VersionTable, versions_in}
 
 -- after each number of entries there stands at each path what the last version before has left
-pub record HasVersions (log : Log) (table : Table) : Type 0 where
+pub record HasVersions (log : Log) (table : VersionTable) : Type 0 where
   pub at : (path : List (List ℕ)) (i : ℕ) → i ≤ length log.order → get (state_at log i) path ≡ version_at (get log.base.loaded path) (versions_in table path) i
   pub below : (path : List (List ℕ)) → All (λ (v : Version). v.entry < length log.order) (versions_in table path)
   pub ascend : (path : List (List ℕ)) → AreAscending (versions_in table path)

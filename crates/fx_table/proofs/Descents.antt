@@ -21,7 +21,7 @@ use Rattle.fx_outside.proofs.Sorted.{both, first, second, less_test}
 use Rattle.fx_outside.proofs.Trees.{name_total, parts_total, parts_same}
 use Rattle.fx_table.specs.declared.descent.Level.{Level}
 use Rattle.fx_table.specs.Places.{rest_of}
-use Rattle.fx_table.specs.Remaining.{from_path, from_names, names_in, left_of, IsLevel, IsNextOf, Enters, ComesNext, IsLeftBelow}
+use Rattle.fx_table.specs.Remaining.{from_path, from_names, names_in, left_of, IsLevel, IsNextPath, EntersDirectory, TakesPath, IsLeftBelow}
 use Rattle.fx_table.proofs.Rests.{longer, not_at}
 
 abbrev Path : Type 0
@@ -261,7 +261,7 @@ left_push nodes (l ∷ ls) level =
     ∙ append_assoc (from_names nodes level.path (drop level.next level.names)) (left_of nodes ls) (from_names nodes l.path (drop l.next l.names))
 
 -- a directory that was gone into
-pub entered_left : (nodes : Nodes) (old new : List Level) (path : Path) (names : List (List ℕ)) → get nodes path ≡ Some (Dir names) → Enters old path names new → left_of nodes new ≡ from_names nodes path (names_in (get nodes path)) ++ left_of nodes old
+pub entered_left : (nodes : Nodes) (old new : List Level) (path : Path) (names : List (List ℕ)) → get nodes path ≡ Some (Dir names) → EntersDirectory old path names new → left_of nodes new ≡ from_names nodes path (names_in (get nodes path)) ++ left_of nodes old
 entered_left nodes old new path [] here is = ap (left_of nodes) is ∙ ap (λ o. from_names nodes path (names_in o) ++ left_of nodes old) (sym here)
 entered_left nodes old new path (name ∷ names) here is =
     ap (left_of nodes) is ∙ left_push nodes old (record { path = path; names = name ∷ names; next = 0 })
@@ -288,7 +288,7 @@ some_node : (o : Option Node) → IsSome o → (node : Node) × (o ≡ Some node
 some_node None is = cc
 some_node (Some node) is = (node, refl)
 
-pub stepped : (nodes : Nodes) → IsWhole (get nodes) → (old mid new : List Level) (level : Level) (path : Path) → IsNextOf level path → IsSome (get nodes path) → left_of nodes mid ≡ from_names nodes level.path (drop (suc level.next) level.names) ++ left_of nodes old → left_of nodes new ≡ from_names nodes path (names_in (get nodes path)) ++ left_of nodes mid → ComesNext nodes (left_of nodes (old ++ level ∷ [])) (left_of nodes new) (Some path)
+pub stepped : (nodes : Nodes) → IsWhole (get nodes) → (old mid new : List Level) (level : Level) (path : Path) → IsNextPath level path → IsSome (get nodes path) → left_of nodes mid ≡ from_names nodes level.path (drop (suc level.next) level.names) ++ left_of nodes old → left_of nodes new ≡ from_names nodes path (names_in (get nodes path)) ++ left_of nodes mid → TakesPath nodes (left_of nodes (old ++ level ∷ [])) (left_of nodes new) (Some path)
 stepped nodes whole old mid new level path next there went entered =
     let some = some_node (get nodes path) there in
     let node = some.0 in
@@ -318,7 +318,7 @@ starts nodes whole levels left =
     (root.0, root.1, all ∙ ap (λ l. ([], Dir root.0) ∷ l) (sym (left ∙ append-nil (from_names nodes [] (names_in (get nodes []))) ∙ ap (λ o. from_names nodes [] (names_in o)) root.1)))
 
 -- the path of a directory's next name is mapped, so it is no longer than a path may be
-pub child_there : (nodes : Nodes) → IsWhole (get nodes) → (level : Level) (path : Path) → IsLevel nodes level → IsNextOf level path → IsSome (get nodes path)
+pub child_there : (nodes : Nodes) → IsWhole (get nodes) → (level : Level) (path : Path) → IsLevel nodes level → IsNextPath level path → IsSome (get nodes path)
 child_there nodes whole level path is next =
     is_there (get nodes path) (ap (λ p. is_some (get nodes p)) next.2 ∙ whole.listed level.path next.0 ∙ ap (λ o. lists o next.0) is.directory ∙ has_at level.names level.next next.0 next.1)
   where
@@ -326,7 +326,7 @@ child_there nodes whole level path is next =
     is_there None e = cc
     is_there (Some x) e = refl
 
-pub next_below : (level : Level) (path : Path) → IsNextOf level path → 0 < length path
+pub next_below : (level : Level) (path : Path) → IsNextPath level path → 0 < length path
 next_below level path next = omega (arith, ap length next.2, length-append level.path (next.0 ∷ []))
 
 pub gone : (o : Option Node) → o ≡ None → IsSome o → ⊥

@@ -18,13 +18,13 @@ use Rattle.fx_store.specs.Changes.{change_at}
 use Rattle.fx_store.specs.Names.{path_cmp}
 use Rattle.fx_store.specs.Orders.{path_eq_same}
 use Rattle.fx_store.specs.Whole.{Store}
-use Rattle.fx_table.specs.Table.{Mark, Target, Executable, TableLine, TableLink, is_flag, has_flags, is_dir, over, can_mark, has_place, links_among, link_in_line, flag_at, IsLine, IsLink, AreLinesOver}
+use Rattle.fx_table.specs.Table.{Mark, Target, Executable, TableLine, TableLink, is_flag_mark, has_flags, is_dir, over, can_mark, has_place, links_among, link_in_line, flag_at, IsLine, IsLink, AreLinesOver}
 use Rattle.fx_table.specs.Flags.{is_flagged, flagged_at, with_exec, flag_change, links_alone}
 use Rattle.fx_table.specs.Lines.{link_change, links_in, mark_node, line_change, mark_in, lines_in}
 use Rattle.fx_table.specs.Listed.{Mapped, with_flag, with_flags, with_lines}
 use Rattle.fx_table.specs.Mapped.{mapped_of}
 use Rattle.fx_table.specs.Merges.{MakeLinks, CanMerge}
-use Rattle.fx_table.specs.Shaped.{IsLeaf, IsOfBytes, AreOfBytes, IsShaped, change_of, changes_of}
+use Rattle.fx_table.specs.Shaped.{IsNodeBounded, IsOfBytes, AreOfBytes, IsTreeShaped, change_of, changes_of}
 use Rattle.fx_table.proofs.Linking.{IsLinked, CanStand, links_made, apart_from}
 use Rattle.fx_table.proofs.Mixing.{made_links}
 use Rattle.fx_table.proofs.Shapes.{found}
@@ -34,7 +34,7 @@ Paths = List (List ℕ)
 
 -- ---- which files are executable
 
-marked : (mark : Mark) → is_flagged (Some (mark_node mark)) ≡ is_flag mark
+marked : (mark : Mark) → is_flagged (Some (mark_node mark)) ≡ is_flag_mark mark
 marked (Target text) = refl
 marked Executable = refl
 
@@ -42,7 +42,7 @@ flags_found : (lines : List TableLine) (q : Paths) → flagged_at (map line_chan
 flags_found [] q = refl
 flags_found (l ∷ lines) q = by (eq_by_cmp path_cmp q l.path) (flags_found lines q)
   where
-    by : (b : Bool) → flagged_at (map line_change lines) q ≡ flag_at lines q → is_flagged (unwrap_or (cond b (Some (Some (mark_node l.mark))) (change_at (map line_change lines) q)) None) ≡ cond b (is_flag l.mark) (flag_at lines q)
+    by : (b : Bool) → flagged_at (map line_change lines) q ≡ flag_at lines q → is_flagged (unwrap_or (cond b (Some (Some (mark_node l.mark))) (change_at (map line_change lines) q)) None) ≡ cond b (is_flag_mark l.mark) (flag_at lines q)
     by true rest = marked l.mark
     by false rest = rest
 
@@ -124,7 +124,7 @@ exec_some flag (Some (File bytes exec)) = refl
 exec_some flag (Some (Dir names)) = refl
 exec_some flag (Some (Link text)) = refl
 
-exec_leaf : (flag : Bool) (o : Option Node) → IfSome o IsLeaf → IfSome (with_exec flag o) IsLeaf
+exec_leaf : (flag : Bool) (o : Option Node) → IfSome o IsNodeBounded → IfSome (with_exec flag o) IsNodeBounded
 exec_leaf flag None is = tt
 exec_leaf flag (Some (File bytes exec)) is = is
 exec_leaf flag (Some (Dir names)) is = is
@@ -143,12 +143,12 @@ module _ (es : List Mapped) (lines : List TableLine) where
   some_flags : (q : Paths) → is_some (found (with_flags es lines) q) ≡ is_some (found es q)
   some_flags q = ap is_some (find_flags es lines q) ∙ exec_some (flag_at lines q) (found es q)
 
-  shape_flags : IsShaped (found es) → IsShaped (found (with_flags es lines))
+  shape_flags : IsTreeShaped (found es) → IsTreeShaped (found (with_flags es lines))
   shape_flags shape = record {
     root = dirs_flags [] ∙ shape.root;
     above = λ path name some. dirs_flags path ∙ shape.above path name (sym (some_flags (path ++ name ∷ [])) ∙ some);
     paths = λ path some. shape.paths path (sym (some_flags path) ∙ some);
-    leaves = λ path. subst (λ o. IfSome o IsLeaf) (sym (find_flags es lines path)) (exec_leaf (flag_at lines path) (found es path) (shape.leaves path));
+    leaves = λ path. subst (λ o. IfSome o IsNodeBounded) (sym (find_flags es lines path)) (exec_leaf (flag_at lines path) (found es path) (shape.leaves path));
   }
 
   pub bytes_flags : AreOfBytes (found es) → AreOfBytes (found (with_flags es lines))
@@ -222,12 +222,12 @@ module _ (S : Store) (flags : Bool) (lines : List TableLine) (table : AreLinesOv
 
 -- ---- one line after another
 
-pub flag_within : (cs : List Change) (i : ℕ) (c : Change) → slice_get cs i ≡ Some c → is_flag (mark_in c.node) ≡ true → has_flags (lines_in cs) ≡ true
+pub flag_within : (cs : List Change) (i : ℕ) (c : Change) → slice_get cs i ≡ Some c → is_flag_mark (mark_in c.node) ≡ true → has_flags (lines_in cs) ≡ true
 flag_within [] i c is flag = cc
 flag_within (d ∷ cs) zero c is flag =
     let same : d ≡ c = same_Some d c is in
-    or_left (is_flag (mark_in d.node)) (has_flags (lines_in cs)) (ap (λ (x : Change). is_flag (mark_in x.node)) same ∙ flag)
-flag_within (d ∷ cs) (suc i) c is flag = or_right (is_flag (mark_in d.node)) (has_flags (lines_in cs)) (flag_within cs i c is flag)
+    or_left (is_flag_mark (mark_in d.node)) (has_flags (lines_in cs)) (ap (λ (x : Change). is_flag_mark (mark_in x.node)) same ∙ flag)
+flag_within (d ∷ cs) (suc i) c is flag = or_right (is_flag_mark (mark_in d.node)) (has_flags (lines_in cs)) (flag_within cs i c is flag)
 
 -- one change more has its flag
 pub flags_more : (f : Change → Change) (cs now : List Change) (i : ℕ) (c d : Change) → i < length cs → now ≡ map f (take i cs) ++ drop i cs → c ≡ get_or now i c → d ≡ f c → slice_set now i d ≡ map f (take (i + 1) cs) ++ drop (i + 1) cs

@@ -2,19 +2,19 @@
 use Rattle.std.proofs.Common.{◌≡◌, List, ℕ, Option, None, Some, Result, Ok, Err, refl, ◌∙◌, ap}
 use Rattle.fx_store.specs.declared.name.PathFault.{PathFault}
 use Rattle.fx_store.specs.Faults.{read_path, read_link}
-use Rattle.fx_table.specs.Table.{Target, Executable, linked, link_of, flagged, flag_of}
+use Rattle.fx_table.specs.Table.{Target, Executable, linked_line, link_of, flagged, flag_of}
 use Rattle.fx_table.specs.Unspells.{result_ok, read_of}
 
-no_first : (r : Result (List (List ℕ)) PathFault) (s : Result (List ℕ) PathFault) → None ≡ result_ok r → None ≡ linked r s
+no_first : (r : Result (List (List ℕ)) PathFault) (s : Result (List ℕ) PathFault) → None ≡ result_ok r → None ≡ linked_line r s
 no_first (Ok p) s e = cc
 no_first (Err fault) s e = refl
 
-no_second : (r : Result (List (List ℕ)) PathFault) (s : Result (List ℕ) PathFault) → None ≡ result_ok s → None ≡ linked r s
+no_second : (r : Result (List (List ℕ)) PathFault) (s : Result (List ℕ) PathFault) → None ≡ result_ok s → None ≡ linked_line r s
 no_second (Ok p) (Ok t) e = cc
 no_second (Ok p) (Err fault) e = refl
 no_second (Err fault) s e = refl
 
-two : (r : Result (List (List ℕ)) PathFault) (s : Result (List ℕ) PathFault) (p : List (List ℕ)) (t : List ℕ) → Some p ≡ result_ok r → Some t ≡ result_ok s → Some (record { path = p; mark = Target t }) ≡ linked r s
+two : (r : Result (List (List ℕ)) PathFault) (s : Result (List ℕ) PathFault) (p : List (List ℕ)) (t : List ℕ) → Some p ≡ result_ok r → Some t ≡ result_ok s → Some (record { path = p; mark = Target t }) ≡ linked_line r s
 two (Ok q) (Ok u) p t e f = let a : p ≡ q = cc in let b : t ≡ u = cc in ap (λ x. Some (record { path = x; mark = Target t })) a ∙ ap (λ x. Some (record { path = q; mark = Target x })) b
 two (Ok q) (Err fault) p t e f = cc
 two (Err fault) s p t e f = cc

@@ -24,7 +24,7 @@ use Rattle.fx_table.specs.declared.fault.LoadFault.{LoadFault}
 use Rattle.fx_table.specs.declared.fault.LoadFault.TheVariants.{Refused, ReadFault, NoMemory}
 use Rattle.fx_table.specs.declared.lines.Room.{Room}
 use Rattle.fx_table.specs.Table.{Mark, Target, Executable, TableLine, TableLink, IsLine, Setting, AreLinesOver, has_place, line_of, lines_text, read_line, read_parts, link_of, flag_of, is_space, links_among, link_in_line}
-use Rattle.fx_table.specs.Lines.{mark_node, line_change, mark_in, line_in, lines_in, AreLines, IsAbsent, IsFirstAt, CanFollow, texts_of, is_over_by, room_less, as_line, TakesRoom, IsNextLine, ReadsNext, IsOver, IsStopped, StopsNext, ReadsBody, BodyCause}
+use Rattle.fx_table.specs.Lines.{mark_node, line_change, mark_in, line_in, lines_in, AreLines, IsAbsent, IsFirstAt, CanFollow, link_bytes, is_over_by, room_less, as_line, TakesRoom, IsNextLine, ReadsNext, IsOver, IsStopped, StopsNext, ReadsBody, BodyCause}
 use Rattle.fx_table.proofs.TableLines.{line_is, line_read, same_line, no_feed}
 
 -- ---- the first place of a byte
@@ -238,7 +238,7 @@ drop_more (b ∷ text) (suc m) n = let one : suc m + n ≡ suc (m + n) = omega a
 
 -- the room that is left behind lines
 abbrev pub room_left : Room → List TableLine → Room
-room_left room ls = record { links = room.links - length (links_among ls); bytes = room.bytes - texts_of (links_among ls) }
+room_left room ls = record { links = room.links - length (links_among ls); bytes = room.bytes - link_bytes (links_among ls) }
 
 links_push : (ls : List TableLine) (l : TableLine) → links_among (ls ++ l ∷ []) ≡ links_among ls ++ links_among (l ∷ [])
 links_push ls l = filter_map-append (λ (k : TableLine). link_in_line k.path k.mark) ls (l ∷ [])
@@ -256,15 +256,15 @@ count_is : (path : List (List ℕ)) (mark : Mark) → length (links_among (recor
 count_is path (Target text) = refl
 count_is path Executable = refl
 
-size_is : (path : List (List ℕ)) (mark : Mark) → texts_of (links_among (record { path = path; mark = mark } ∷ [])) ≡ size_of mark
+size_is : (path : List (List ℕ)) (mark : Mark) → link_bytes (links_among (record { path = path; mark = mark } ∷ [])) ≡ size_of mark
 size_is path (Target text) = omega arith
 size_is path Executable = refl
 
 count_push : (ls : List TableLine) (l : TableLine) → length (links_among (ls ++ l ∷ [])) ≡ length (links_among ls) + count_of l.mark
 count_push ls l = ap length (links_push ls l) ∙ (length-append (links_among ls) (links_among (l ∷ [])) ∙ ap (λ n. length (links_among ls) + n) (count_is l.path l.mark))
 
-texts_push : (ls : List TableLine) (l : TableLine) → texts_of (links_among (ls ++ l ∷ [])) ≡ texts_of (links_among ls) + size_of l.mark
-texts_push ls l = ap texts_of (links_push ls l) ∙ (sum_by-append (λ (k : TableLink). length k.text) (links_among ls) (links_among (l ∷ [])) ∙ ap (λ n. texts_of (links_among ls) + n) (size_is l.path l.mark))
+texts_push : (ls : List TableLine) (l : TableLine) → link_bytes (links_among (ls ++ l ∷ [])) ≡ link_bytes (links_among ls) + size_of l.mark
+texts_push ls l = ap link_bytes (links_push ls l) ∙ (sum_by-append (λ (k : TableLink). length k.text) (links_among ls) (links_among (l ∷ [])) ∙ ap (λ n. link_bytes (links_among ls) + n) (size_is l.path l.mark))
 
 over_tests : (a b m n k t : ℕ) → (nat_lt a m || nat_lt b n) ≡ false → (nat_lt (a - m) k || nat_lt (b - n) t) ≡ (nat_lt a (m + k) || nat_lt b (n + t))
 over_tests a b m n k t few = grind (arith, nat_tests)
@@ -273,7 +273,7 @@ over_tests a b m n k t few = grind (arith, nat_tests)
 over_push : (room : Room) (ls : List TableLine) (l : TableLine) → is_over_by room ls ≡ false → is_over_by (room_left room ls) (l ∷ []) ≡ is_over_by room (ls ++ l ∷ [])
 over_push room ls l few =
     let a = length (links_among ls) in
-    let b = texts_of (links_among ls) in
+    let b = link_bytes (links_among ls) in
     (λ i. nat_lt (room.links - a) (count_is l.path l.mark i) || nat_lt (room.bytes - b) (size_is l.path l.mark i))
     ∙ (over_tests room.links room.bytes a b (count_of l.mark) (size_of l.mark) few
     ∙ (λ i. nat_lt room.links (sym (count_push ls l) i) || nat_lt room.bytes (sym (texts_push ls l) i)))
@@ -291,7 +291,7 @@ less_by room Executable = λ i. record { links = nothing_off room.links i; bytes
 less : (room : Room) (ls : List TableLine) (l : TableLine) → room_less (room_left room ls) l.mark ≡ room_left room (ls ++ l ∷ [])
 less room ls l =
     let a : room.links - length (links_among ls) - count_of l.mark ≡ room.links - length (links_among (ls ++ l ∷ [])) = minus room.links (length (links_among ls)) (count_of l.mark) ∙ ap (λ k. room.links - k) (sym (count_push ls l)) in
-    let b : room.bytes - texts_of (links_among ls) - size_of l.mark ≡ room.bytes - texts_of (links_among (ls ++ l ∷ [])) = minus room.bytes (texts_of (links_among ls)) (size_of l.mark) ∙ ap (λ k. room.bytes - k) (sym (texts_push ls l)) in
+    let b : room.bytes - link_bytes (links_among ls) - size_of l.mark ≡ room.bytes - link_bytes (links_among (ls ++ l ∷ [])) = minus room.bytes (link_bytes (links_among ls)) (size_of l.mark) ∙ ap (λ k. room.bytes - k) (sym (texts_push ls l)) in
     less_by (room_left room ls) l.mark ∙ (λ i. record { links = a i; bytes = b i })
 
 -- the lines before a place, for which there is room

@@ -16,7 +16,7 @@ use Rattle.fx_store.specs.Resolve.{parent}
 use Rattle.fx_store.specs.Whole.{Store}
 use Rattle.fx_table.specs.Table.{TableLink, IsLink, is_dir, can_stand}
 use Rattle.fx_table.specs.Listed.{Mapped, with_links}
-use Rattle.fx_table.proofs.Shapes.{found, IsShaped, IsLeaf}
+use Rattle.fx_table.proofs.Shapes.{found, IsTreeShaped, IsNodeBounded}
 
 abbrev Paths : Type 0
 Paths = List (List ℕ)
@@ -53,7 +53,7 @@ module _ (S now : Store) (link : TableLink) (can : CanLink S now link) where
   dir_stays : (q : Paths) → is_dir (now q) ≡ true → is_dir (linked_at now link q) ≡ true
   dir_stays q is = dirs_stay q ∙ (sym (can.dirs q) ∙ is)
 
-  above_linked : IsShaped now → (path : Paths) (name : List ℕ) → is_some (linked_at now link (path ++ name ∷ [])) ≡ true → is_dir (linked_at now link path) ≡ true
+  above_linked : IsTreeShaped now → (path : Paths) (name : List ℕ) → is_some (linked_at now link (path ++ name ∷ [])) ≡ true → is_dir (linked_at now link path) ≡ true
   above_linked shape path name some = dir_stays path (elim (cases_Bool (eq_by_cmp path_cmp (path ++ name ∷ []) link.path)) [
     | inl same ↦
         let at : path ++ name ∷ [] ≡ link.path = path_eq_same (path ++ name ∷ []) link.path same in
@@ -62,20 +62,20 @@ module _ (S now : Store) (link : TableLink) (can : CanLink S now link) where
     | inr other ↦ shape.above path name (sym (ap (λ b. is_some (cond b (Some (Link link.text)) (now (path ++ name ∷ [])))) other) ∙ some)
   ])
 
-  paths_linked : IsShaped now → (path : Paths) → IsSome (linked_at now link path) → IsPath path
+  paths_linked : IsTreeShaped now → (path : Paths) → IsSome (linked_at now link path) → IsPath path
   paths_linked shape path some = elim (cases_Bool (eq_by_cmp path_cmp path link.path)) [
     | inl same ↦ subst IsPath (sym (path_eq_same path link.path same)) can.within.path
     | inr other ↦ shape.paths path (sym (ap (λ b. is_some (cond b (Some (Link link.text)) (now path))) other) ∙ some)
   ]
 
-  leaf_linked : IsShaped now → (path : Paths) → IfSome (linked_at now link path) IsLeaf
+  leaf_linked : IsTreeShaped now → (path : Paths) → IfSome (linked_at now link path) IsNodeBounded
   leaf_linked shape path = either (eq_by_cmp path_cmp path link.path)
     where
-      either : (b : Bool) → IfSome (cond b (Some (Link link.text)) (now path)) IsLeaf
+      either : (b : Bool) → IfSome (cond b (Some (Link link.text)) (now path)) IsNodeBounded
       either true = can.within.text
       either false = shape.leaves path
 
-  shape_linked : IsShaped now → IsShaped (linked_at now link)
+  shape_linked : IsTreeShaped now → IsTreeShaped (linked_at now link)
   shape_linked shape = record {
     root = dir_stays [] shape.root;
     above = above_linked shape;
@@ -86,7 +86,7 @@ module _ (S now : Store) (link : TableLink) (can : CanLink S now link) where
 -- what the entries are once the links are made
 pub record IsLinked (S : Store) (es : List Mapped) : Type 0 where
   pub sorted : T (is_sorted path_cmp es)
-  pub shape : IsShaped (found es)
+  pub shape : IsTreeShaped (found es)
   pub dirs : (q : Paths) → is_dir (found es q) ≡ is_dir (S q)
 
 abbrev pub CanStand : Store → TableLink → Type 0
@@ -99,7 +99,7 @@ links_made S es (link ∷ links) valid stand made =
     let same : found (put path_cmp link.path (Link link.text) es) ≡ linked_at (found es) link = λ i q. find_linked es link q i in
     links_made S (put path_cmp link.path (Link link.text) es) links (All-tail IsLink link links valid) (All-tail (CanStand S) link links stand) (record {
       sorted = is_sorted-put path_cmp path_total link.path (Link link.text) es made.sorted;
-      shape = subst IsShaped (sym same) (shape_linked S (found es) link can made.shape);
+      shape = subst IsTreeShaped (sym same) (shape_linked S (found es) link can made.shape);
       dirs = λ q. ap is_dir (find_linked es link q) ∙ dirs_stay S (found es) link can q;
     })
 

@@ -17,7 +17,7 @@ use Rattle.fx_store.specs.Orders.{path_total}
 use Rattle.fx_table.specs.Listed.{Mapped, with_links}
 use Rattle.fx_table.specs.Lines.{link_change, link_in, links_in}
 use Rattle.fx_table.specs.Mapped.{mapped_of, node_or_dir}
-use Rattle.fx_table.specs.Merges.{pending, MakesLink, MakeLinks, CanMerge, Moves, StopsAt, MovesAll}
+use Rattle.fx_table.specs.Merges.{pending, MakesLink, MakeLinks, CanMerge, MovesLinks, StopsAt, MovesAll}
 use Rattle.fx_table.specs.Shaped.{change_of, changes_of}
 use Rattle.fx_table.specs.Table.{TableLink}
 
@@ -85,7 +85,7 @@ made_reversed cs new is made = subst MakeLinks (sym is) (go cs made)
     go [] made = tt
     go (c ∷ cs) made = subst MakeLinks (sym (reverse-append (c ∷ []) cs)) (all_both MakesLink (reverse cs) (c ∷ []) (go cs made.1) (made.0, tt))
 
-pub moves_none : (rest : List Change) (path : Paths) (all : List Change) → MakeLinks rest → Moves rest rest path all all
+pub moves_none : (rest : List Change) (path : Paths) (all : List Change) → MakeLinks rest → MovesLinks rest rest path all all
 moves_none rest path all made = record { taken = []; pend = refl; moved = sym (append-nil all); before = tt; made = made }
 
 map_push : (ls : List TableLink) (l : TableLink) → map link_change (ls ++ l ∷ []) ≡ map link_change ls ++ link_change l ∷ []
@@ -93,7 +93,7 @@ map_push [] l = refl
 map_push (k ∷ ls) l = ap (λ cs. link_change k ∷ cs) (map_push ls l)
 
 -- one link more is moved
-pub moves_more : (old now new : List Change) (path : Paths) (all mid end : List Change) (c : Change) → Moves old now path all mid → now ≡ new ++ c ∷ [] → path_cmp c.path path ≡ Less → end ≡ mid ++ c ∷ [] → Moves old new path all end
+pub moves_more : (old now new : List Change) (path : Paths) (all mid end : List Change) (c : Change) → MovesLinks old now path all mid → now ≡ new ++ c ∷ [] → path_cmp c.path path ≡ Less → end ≡ mid ++ c ∷ [] → MovesLinks old new path all end
 moves_more old now new path all mid end c moves last less more =
     let made = subst MakeLinks last moves.made in
     record {
@@ -113,16 +113,16 @@ less_is Equal b is holds = let wrong : true ≡ false = sym holds ∙ is in cc
 less_is Greater b is holds = let wrong : true ≡ false = sym holds ∙ is in cc
 
 -- the next one is not before the path
-pub moves_stop : (old now new kept : List Change) (path : Paths) (all mid : List Change) (c : Change) (o : Ordering) (b : Bool) → Moves old now path all mid → now ≡ new ++ c ∷ [] → kept ≡ new ++ c ∷ [] → o ≡ path_cmp c.path path → b ≡ is_lt o → b ≡ false → MovesAll old kept path all mid
+pub moves_stop : (old now new kept : List Change) (path : Paths) (all mid : List Change) (c : Change) (o : Ordering) (b : Bool) → MovesLinks old now path all mid → now ≡ new ++ c ∷ [] → kept ≡ new ++ c ∷ [] → o ≡ path_cmp c.path path → b ≡ is_lt o → b ≡ false → MovesAll old kept path all mid
 moves_stop old now new kept path all mid c o b moves last back is tests fails =
     let same : now ≡ kept = last ∙ sym back in
     record {
-      moves = subst (λ l. Moves old l path all mid) same moves;
+      moves = subst (λ l. MovesLinks old l path all mid) same moves;
       stops = subst (λ l. StopsAt path l) (sym (ap pending back ∙ pending_push new c)) (λ less. not_less o b tests fails (is ∙ less));
     }
 
-pub moves_end : (old now left : List Change) (path : Paths) (all mid : List Change) → Moves old now path all mid → now ≡ left ++ [] → length left ≡ 0 → MovesAll old left path all mid
-moves_end old now [] path all mid moves is none = record { moves = subst (λ l. Moves old l path all mid) is moves; stops = tt }
+pub moves_end : (old now left : List Change) (path : Paths) (all mid : List Change) → MovesLinks old now path all mid → now ≡ left ++ [] → length left ≡ 0 → MovesAll old left path all mid
+moves_end old now [] path all mid moves is none = record { moves = subst (λ l. MovesLinks old l path all mid) is moves; stops = tt }
 moves_end old now (c ∷ left) path all mid moves is none = absurd (omega (arith, none))
 
 -- ---- one path after another

@@ -33,14 +33,14 @@ use Rattle.fx_table.specs.declared.lines.Room.{Room}
 use Rattle.fx_table.specs.declared.descent.Level.{Level}
 use Rattle.fx_table.specs.Flags.{with_exec}
 use Rattle.fx_table.specs.Listed.{Mapped, listed, with_links, with_flags, with_lines}
-use Rattle.fx_table.specs.Shaped.{IsOfBytes, AreOfBytes, IsLeaf, IsShaped, changes_of, HaveNameSets}
-use Rattle.fx_table.specs.Lines.{lines_in, AreLines, texts_of, ReadsAll, LinesCause}
-use Rattle.fx_table.specs.Linked.{linked_nodes, MakesTable, TableCause, bare_node, bare, differs, flag_change, kept_change, kept_of, Keeps}
+use Rattle.fx_table.specs.Shaped.{IsOfBytes, AreOfBytes, IsNodeBounded, IsTreeShaped, changes_of, HaveNameSets}
+use Rattle.fx_table.specs.Lines.{lines_in, AreLines, link_bytes, ReadsAll, LinesCause}
+use Rattle.fx_table.specs.Linked.{linked_nodes, MakesTable, TableCause, emptied_node, bare, differs, changed_flag, kept_change, kept_of, Keeps}
 use Rattle.fx_table.specs.Mapped.{mapped_of}
 use Rattle.fx_table.specs.Merges.{CanMerge}
 use Rattle.fx_table.specs.Remaining.{left_of, AreLevels}
 use Rattle.fx_table.specs.Table.{Mark, Target, Executable, TableLine, TableLink, over as setting, is_dir, line_of, lines_text, links_among, link_in_line, flag_at, is_second, body_of, read_table}
-use Rattle.fx_table.specs.TableSpelling.{is_plain, spelled, spelling}
+use Rattle.fx_table.specs.TableSpelling.{is_plain_byte, spelled, spelling}
 use Rattle.fx_table.proofs.Bodies.{bad_read}
 use Rattle.fx_table.proofs.Flagging.{find_flags, keys_flags, bytes_flags, lines_made, lines_merge}
 use Rattle.fx_table.proofs.Linking.{IsLinked, find_linked}
@@ -61,11 +61,11 @@ keys_bare : (es : List Mapped) → keys_of (map bare es) ≡ keys_of es
 keys_bare [] = refl
 keys_bare (e ∷ es) = ap (λ l. e.0 ∷ l) (keys_bare es)
 
-find_bare : (es : List Mapped) (q : Parts) → found (map bare es) q ≡ option_map bare_node (found es q)
+find_bare : (es : List Mapped) (q : Parts) → found (map bare es) q ≡ option_map emptied_node (found es q)
 find_bare [] q = refl
 find_bare (e ∷ es) q = by (eq_by_cmp path_cmp q e.0) (find_bare es q)
   where
-    by : (b : Bool) → found (map bare es) q ≡ option_map bare_node (found es q) → cond b (Some (bare_node e.1)) (found (map bare es) q) ≡ option_map bare_node (cond b (Some e.1) (found es q))
+    by : (b : Bool) → found (map bare es) q ≡ option_map emptied_node (found es q) → cond b (Some (emptied_node e.1)) (found (map bare es) q) ≡ option_map emptied_node (cond b (Some e.1) (found es q))
     by true rest = refl
     by false rest = rest
 
@@ -118,7 +118,7 @@ keep q there None = None
 keep q there (Some node) = option_map (λ (c : Change). c.node) (kept_change q there node)
 
 -- what is kept stands at the same path
-flag_path : (p : Parts) (exec : Bool) (there : Option Node) (d : Change) → flag_change p exec there ≡ Some d → d.path ≡ p
+flag_path : (p : Parts) (exec : Bool) (there : Option Node) (d : Change) → changed_flag p exec there ≡ Some d → d.path ≡ p
 flag_path p exec None d e = cc
 flag_path p exec (Some (File bytes was)) d e = by (differs exec was) e
   where
@@ -203,7 +203,7 @@ module _ (nodes : Nodes) (whole : IsWhole (get nodes)) where
   dir_lists (Some (Dir names)) name e = refl
   dir_lists (Some (Link text)) name e = e
 
-  leaf_of : (p : Parts) (o : Option Node) → IfSome o (IsNode p) → IfSome o IsLeaf
+  leaf_of : (p : Parts) (o : Option Node) → IfSome o (IsNode p) → IfSome o IsNodeBounded
   leaf_of p None is = tt
   leaf_of p (Some (File bytes exec)) is = is.short
   leaf_of p (Some (Dir names)) is = tt
@@ -215,7 +215,7 @@ module _ (nodes : Nodes) (whole : IsWhole (get nodes)) where
   bytes_of p (Some (Dir names)) is = tt
   bytes_of p (Some (Link text)) is = tt
 
-  shape : IsShaped (get nodes)
+  shape : IsTreeShaped (get nodes)
   shape = record {
     root = ap is_dir whole.root.1;
     above = λ path name some. dir_lists (get nodes path) name (sym (whole.listed path name) ∙ some);
@@ -224,7 +224,7 @@ module _ (nodes : Nodes) (whole : IsWhole (get nodes)) where
   }
 
   linked : IsLinked (get nodes) es
-  linked = record { sorted = entries_sorted nodes; shape = subst IsShaped store_is shape; dirs = λ q. ap is_dir (sym (at q)) }
+  linked = record { sorted = entries_sorted nodes; shape = subst IsTreeShaped store_is shape; dirs = λ q. ap is_dir (sym (at q)) }
 
   module _ (lines : List Change) (are : AreLines (setting (get nodes) true) lines) where
     abbrev ls : List TableLine
@@ -255,7 +255,7 @@ module _ (nodes : Nodes) (whole : IsWhole (get nodes)) where
     bare_set cs is = is ∙ ap changes_of (sym (ap mapped_of is ∙ mapped_changes (map bare es)))
 
     free_bare : (q : Parts) → found es q ≡ None → found (map bare es) q ≡ None
-    free_bare q none = find_bare es q ∙ ap (option_map bare_node) none
+    free_bare q none = find_bare es q ∙ ap (option_map emptied_node) none
 
     apart : (links : List TableLink) → AllByRecursion (λ (l : TableLink). find path_cmp l.path es ≡ None) links → AllByRecursion (λ (l : TableLink). find path_cmp l.path (map bare es) ≡ None) links
     apart [] all = tt
@@ -291,7 +291,7 @@ module _ (nodes : Nodes) (whole : IsWhole (get nodes)) where
     kept_ascend all kept is filtered = subst IsChanges (sym (filtered ∙ ap (kept_of nodes) is)) (kept_ascends nodes (changes_of (listed B)) all_ascend)
 
     -- what the bare entries hold at a path once the lines are set
-    bare_at : (q : Parts) → found B q ≡ link_over q ks (with_exec (flag_at ls q) (option_map bare_node (found es q)))
+    bare_at : (q : Parts) → found B q ≡ link_over q ks (with_exec (flag_at ls q) (option_map emptied_node (found es q)))
     bare_at q = find_over (with_flags (map bare es) ls) ks q ∙ ap (link_over q ks) (find_flags (map bare es) ls q ∙ ap (with_exec (flag_at ls q)) (find_bare es q))
 
     full_at : (q : Parts) → found E q ≡ link_over q ks (with_exec (flag_at ls q) (found es q))
@@ -299,13 +299,13 @@ module _ (nodes : Nodes) (whole : IsWhole (get nodes)) where
 
     -- what the changes make at a path
     abbrev made_over : Parts → Option Node → Option (Option Node)
-    made_over q o = keep q o (option_map Some (option_map (relisted B q) (link_over q ks (with_exec (flag_at ls q) (option_map bare_node o)))))
+    made_over q o = keep q o (option_map Some (option_map (relisted B q) (link_over q ks (with_exec (flag_at ls q) (option_map emptied_node o)))))
 
     made_at : (q : Parts) → change_at (kept_of nodes (changes_of (listed B))) q ≡ made_over q (found es q)
     made_at q =
         kept_at nodes (changes_of (listed B)) q all_ascend
         ∙ (ap (keep q (get nodes q)) (set_at (listed B) q ∙ ap (option_map Some) (find_listed B B q ∙ ap (option_map (relisted B q)) (bare_at q)))
-        ∙ ap (λ o. keep q o (option_map Some (option_map (relisted B q) (link_over q ks (with_exec (flag_at ls q) (option_map bare_node (found es q))))))) (at q))
+        ∙ ap (λ o. keep q o (option_map Some (option_map (relisted B q) (link_over q ks (with_exec (flag_at ls q) (option_map emptied_node (found es q))))))) (at q))
 
     flagged : (q : Parts) (content : List ℕ) (exec was : Bool) → unwrap_or (option_map (λ (c : Change). c.node) (cond (differs exec was) (Some (record { path = q; node = Some (File content exec) })) None)) (Some (File content was)) ≡ Some (File content exec)
     flagged q content true true = refl
@@ -313,7 +313,7 @@ module _ (nodes : Nodes) (whole : IsWhole (get nodes)) where
     flagged q content false true = refl
     flagged q content false false = refl
 
-    plain : (q : Parts) (exec : Bool) (o : Option Node) → unwrap_or (keep q o (option_map Some (option_map (relisted B q) (with_exec exec (option_map bare_node o))))) o ≡ option_map (relisted E q) (with_exec exec o)
+    plain : (q : Parts) (exec : Bool) (o : Option Node) → unwrap_or (keep q o (option_map Some (option_map (relisted B q) (with_exec exec (option_map emptied_node o))))) o ≡ option_map (relisted E q) (with_exec exec o)
     unfolding keep
     plain q exec None = refl
     plain q exec (Some (File content was)) = flagged q content exec was
@@ -323,10 +323,10 @@ module _ (nodes : Nodes) (whole : IsWhole (get nodes)) where
     linked_at : (q : Parts) (o : Option Node) → IsOver q ks → unwrap_or (made_over q o) o ≡ option_map (relisted E q) (link_over q ks (with_exec (flag_at ls q) o))
     unfolding keep
     linked_at q o (inl over) =
-        ap (λ x. unwrap_or (keep q o (option_map Some (option_map (relisted B q) x))) o) (over.1 (with_exec (flag_at ls q) (option_map bare_node o)))
+        ap (λ x. unwrap_or (keep q o (option_map Some (option_map (relisted B q) x))) o) (over.1 (with_exec (flag_at ls q) (option_map emptied_node o)))
         ∙ sym (ap (option_map (relisted E q)) (over.1 (with_exec (flag_at ls q) o)))
     linked_at q o (inr same) =
-        ap (λ x. unwrap_or (keep q o (option_map Some (option_map (relisted B q) x))) o) (same (with_exec (flag_at ls q) (option_map bare_node o)))
+        ap (λ x. unwrap_or (keep q o (option_map Some (option_map (relisted B q) x))) o) (same (with_exec (flag_at ls q) (option_map emptied_node o)))
         ∙ (plain q (flag_at ls q) o ∙ sym (ap (option_map (relisted E q)) (same (with_exec (flag_at ls q) o))))
 
     pub makes_lines : (all kept : List Change) → all ≡ changes_of (listed B) → kept ≡ kept_of nodes all → over_nodes nodes kept ≡ linked_nodes nodes (lines_in lines)
@@ -343,7 +343,7 @@ module _ (nodes : Nodes) (whole : IsWhole (get nodes)) where
 -- ---- there is always room
 
 spelled_some : (b : ℕ) → 1 ≤ length (spelled b)
-spelled_some b = by (is_plain b) (digit_glyph true (b / 16)) (digit_glyph true (b % 16))
+spelled_some b = by (is_plain_byte b) (digit_glyph true (b / 16)) (digit_glyph true (b % 16))
   where
     by : (t : Bool) (x y : ℕ) → 1 ≤ length (cond t (b ∷ []) (37 ∷ x ∷ y ∷ []))
     by true x y = omega arith
@@ -353,7 +353,7 @@ spelling_long : (bs : List ℕ) → length bs ≤ length (spelling bs)
 spelling_long [] = omega arith
 spelling_long (b ∷ bs) = omega (arith, length-append (spelled b) (spelling bs), spelled_some b, spelling_long bs)
 
-line_long : (p : Parts) (mark : Mark) → texts_of (cons_option (link_in_line p mark) []) ≤ length (line_of (record { path = p; mark = mark }))
+line_long : (p : Parts) (mark : Mark) → link_bytes (cons_option (link_in_line p mark) []) ≤ length (line_of (record { path = p; mark = mark }))
 line_long p (Target text) =
     omega (arith, length-append (spelling (path_text p)) (codes " -> " ++ spelling text), length-append (codes " -> ") (spelling text), spelling_long text)
 line_long p Executable = omega arith
@@ -362,7 +362,7 @@ one_long : (p : Parts) (mark : Mark) → length (cons_option (link_in_line p mar
 one_long p (Target text) = omega arith
 one_long p Executable = omega arith
 
-first_texts : (p : Parts) (mark : Mark) (ks : List TableLink) → texts_of (cons_option (link_in_line p mark) ks) ≡ texts_of (cons_option (link_in_line p mark) []) + texts_of ks
+first_texts : (p : Parts) (mark : Mark) (ks : List TableLink) → link_bytes (cons_option (link_in_line p mark) ks) ≡ link_bytes (cons_option (link_in_line p mark) []) + link_bytes ks
 first_texts p (Target text) ks = omega (arith, sum_by-cons (λ (k : TableLink). length k.text) (record { path = p; text = text }) ks, sum_by-cons (λ (k : TableLink). length k.text) (record { path = p; text = text }) [])
 first_texts p Executable ks = omega arith
 
@@ -370,7 +370,7 @@ first_count : (p : Parts) (mark : Mark) (ks : List TableLink) → length (cons_o
 first_count p (Target text) ks = omega arith
 first_count p Executable ks = omega arith
 
-texts_long : (ls : List TableLine) → texts_of (links_among ls) ≤ length (lines_text ls)
+texts_long : (ls : List TableLine) → link_bytes (links_among ls) ≤ length (lines_text ls)
 texts_long [] = omega arith
 texts_long (l ∷ ls) =
     omega (arith, first_texts l.path l.mark (links_among ls), length-append (line_of l ++ 10 ∷ []) (lines_text ls), length-append (line_of l) (10 ∷ []), line_long l.path l.mark, texts_long ls)
@@ -402,8 +402,8 @@ table_caused nodes text room (Refused (TooLarge place)) a b why =
     let ls = why.1.lines in
     let ks = links_among ls in
     let long : length (body_of text) ≡ length (lines_text ls) + length why.1.front.rest = ap length why.1.front.parts ∙ length-append (lines_text ls) why.1.front.rest in
-    never_over (length text) (length ks) (texts_of ks) (omega (arith, long, body_short text, count_long ls)) (omega (arith, long, body_short text, texts_long ls))
-    (ap (λ n. nat_lt n (length ks) || nat_lt (length text) (texts_of ks)) (sym a) ∙ (ap (λ n. nat_lt room.links (length ks) || nat_lt n (texts_of ks)) (sym b) ∙ why.1.many))
+    never_over (length text) (length ks) (link_bytes ks) (omega (arith, long, body_short text, count_long ls)) (omega (arith, long, body_short text, texts_long ls))
+    (ap (λ n. nat_lt n (length ks) || nat_lt (length text) (link_bytes ks)) (sym a) ∙ (ap (λ n. nat_lt room.links (length ks) || nat_lt n (link_bytes ks)) (sym b) ∙ why.1.many))
 table_caused nodes text room (Refused (BadTable n)) a b why = bad_read (get nodes) text n why.first
 table_caused nodes text room ReadFault a b why = why
 table_caused nodes text room NoMemory a b why = tt

@@ -21,7 +21,7 @@ use Rattle.fx_store.proofs.PathLists.{has_first}
 use Rattle.fx_table.specs.Table.{is_dir}
 use Rattle.fx_table.specs.Listed.{Mapped, names_below, with_names, listed}
 use Rattle.fx_table.specs.Shaped.{IsOfBytes, AreOfBytes}
-pub use Rattle.fx_table.specs.Shaped.{IsLeaf, IsShaped}
+pub use Rattle.fx_table.specs.Shaped.{IsNodeBounded, IsTreeShaped}
 
 abbrev Paths : Type 0
 Paths = List (List ℕ)
@@ -125,7 +125,7 @@ never_some : (b : Bool) → (b ≡ true → false ≡ true) → b ≡ false
 never_some true never = absurd (false≢true (never refl))
 never_some false never = refl
 
-module _ (es : List Mapped) (up : IsStrictlySortedBy path_cmp (keys_of es)) (shape : IsShaped (found es)) (bytes : AreOfBytes (found es)) where
+module _ (es : List Mapped) (up : IsStrictlySortedBy path_cmp (keys_of es)) (shape : IsTreeShaped (found es)) (bytes : AreOfBytes (found es)) where
   abbrev after : Store
   after path = option_map (relisted es path) (found es path)
 
@@ -153,7 +153,7 @@ module _ (es : List Mapped) (up : IsStrictlySortedBy path_cmp (keys_of es)) (sha
     λ long. no_names (names_below es path) (λ n h. let short = (path_below path n h).short in omega (arith, length-append path (n ∷ []))),
   )
 
-  node_within : (path : Paths) (o : Option Node) → IfSome o IsLeaf → IfSome o IsOfBytes → IfSome (option_map (relisted es path) o) (IsNode path)
+  node_within : (path : Paths) (o : Option Node) → IfSome o IsNodeBounded → IfSome o IsOfBytes → IfSome (option_map (relisted es path) o) (IsNode path)
   node_within path None leaf held = tt
   node_within path (Some (File bs exec)) leaf held = record { short = leaf; bytes = held }
   node_within path (Some (Dir names)) leaf held = is_set path

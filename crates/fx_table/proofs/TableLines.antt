@@ -22,7 +22,7 @@ use Rattle.fx_store.specs.Faults.{read_path, read_link}
 use Rattle.fx_store.proofs.SpellingLaws.{path_texts_read}
 use Rattle.fx_store.proofs.PathLists.{read_path_text, path_bytes}
 use Rattle.fx_table.specs.TableSpelling.{spelling, unspelled}
-use Rattle.fx_table.specs.Table.{Mark, Target, Executable, TableLine, mark_text, line_of, lines_text, linked, link_of, flagged, flag_of, read_parts, is_space, read_line, Setting, has_place, next_line, with_first, read_on, read_lines, is_feed, read_from, IsMark, IsLine, IsTableBehind, AreLinesOver}
+use Rattle.fx_table.specs.Table.{Mark, Target, Executable, TableLine, mark_text, line_of, lines_text, linked_line, link_of, flagged, flag_of, read_parts, is_space, read_line, Setting, has_place, next_line, with_first, read_on, read_lines, is_feed, read_from, IsMark, IsLine, IsTableBehind, AreLinesOver}
 use Rattle.fx_table.specs.TableLaws.{IsFirstBadOf}
 use Rattle.fx_table.proofs.TableSpelling.{spelling_read, read_spelling, spelling_visible}
 
@@ -93,7 +93,7 @@ marked_read path (Target text) valid is =
     ap read_parts (line_parts path text)
     ∙ (ap (λ p. link_of p (unspelled (spelling text))) (spelling_read (path_text path) (path_bytes path valid.names))
     ∙ (ap (link_of (Some (path_text path))) (spelling_read text is.bytes)
-    ∙ (ap (λ p. linked p (read_link text)) (read_path_text path valid) ∙ ap (linked (Ok path)) (read_link_text text is))))
+    ∙ (ap (λ p. linked_line p (read_link text)) (read_path_text path valid) ∙ ap (linked_line (Ok path)) (read_link_text text is))))
 marked_read path Executable valid is =
     ap read_parts (flag_parts path)
     ∙ (ap flag_of (spelling_read (path_text path) (path_bytes path valid.names)) ∙ ap flagged (read_path_text path valid))
@@ -112,7 +112,7 @@ record AreParts (a b : List ℕ) (l : TableLine) : Type 0 where
   mark : mark_text l.mark ≡ codes " -> " ++ b
   valid : IsLine l
 
-linked_is : (a b p t : List ℕ) (x : Result (List (List ℕ)) PathFault) (y : Result (List ℕ) PathFault) (l : TableLine) → spelling p ≡ a → spelling t ≡ b → All IsByte t → read_path p ≡ x → read_link t ≡ y → linked x y ≡ Some l → AreParts a b l
+linked_is : (a b p t : List ℕ) (x : Result (List (List ℕ)) PathFault) (y : Result (List ℕ) PathFault) (l : TableLine) → spelling p ≡ a → spelling t ≡ b → All IsByte t → read_path p ≡ x → read_link t ≡ y → linked_line x y ≡ Some l → AreParts a b l
 linked_is a b p t (Ok path) (Ok text) l pa tb bytes e f is =
     let here = path_of_read p path e in
     let there = link_of_read t text bytes f in

@@ -9,8 +9,8 @@ use Rattle.fx_table.specs.declared.descent.Entry.{Entry}
 use Rattle.fx_table.specs.declared.descent.Level.{Level}
 use Rattle.fx_table.specs.declared.links.TableText.{TableText}
 use Rattle.fx_table.specs.Table.{TableLine, line_at, lines_of, lines_text, has_flags}
-use Rattle.fx_table.specs.Texts.{text_at, flag_of_node, lines_so_far, flags_so_far, AddsLine}
-use Rattle.fx_table.specs.Remaining.{left_of, AreLevels, IsLeftBelow, IsEntry}
+use Rattle.fx_table.specs.Texts.{line_text_at, flag_of_node, lines_so_far, flags_so_far, AddsLine}
+use Rattle.fx_table.specs.Remaining.{left_of, AreLevels, IsLeftBelow, TakesEntry}
 
 abbrev Mapped : Type 0
 Mapped = List (List ℕ) × Node
@@ -33,7 +33,7 @@ listing_starts nodes text levels are left none plain = record {
 }
 
 -- what one node more adds
-first_line : (path : List (List ℕ)) (node : Node) (es : List (List (List ℕ) × Node)) → lines_text (lines_among ((path, node) ∷ es)) ≡ text_at path (Some node) ++ lines_text (lines_among es)
+first_line : (path : List (List ℕ)) (node : Node) (es : List (List (List ℕ) × Node)) → lines_text (lines_among ((path, node) ∷ es)) ≡ line_text_at path (Some node) ++ lines_text (lines_among es)
 first_line path (File bytes true) es = refl
 first_line path (File bytes false) es = refl
 first_line path (Dir names) es = refl
@@ -49,7 +49,7 @@ or_assoc : (a b c : Bool) → ((a || b) || c) ≡ (a || (b || c))
 or_assoc true b c = refl
 or_assoc false b c = refl
 
-pub listing_more : (nodes : Nodes) (text new : TableText) (levels levels' : List Level) (e : Entry) → IsListing text nodes levels → AreLevels nodes levels' → IsEntry nodes (left_of nodes levels) (left_of nodes levels') e → AddsLine text e.path e.node.now new → IsListing new nodes levels'
+pub listing_more : (nodes : Nodes) (text new : TableText) (levels levels' : List Level) (e : Entry) → IsListing text nodes levels → AreLevels nodes levels' → TakesEntry nodes (left_of nodes levels) (left_of nodes levels') e → AddsLine text e.path e.node.now new → IsListing new nodes levels'
 listing_more nodes text new levels levels' e was are comes adds =
     let path = e.path in
     let next = comes.next in
@@ -60,8 +60,8 @@ listing_more nodes text new levels levels' e was are comes adds =
     record {
       are = are;
       lines =
-          ap (λ t. t ++ lines_text (lines_among left)) (adds.lines ∙ ap (λ n. so ++ text_at path (Some n)) same)
-          ∙ (append_assoc so (text_at path (Some next.0)) (lines_text (lines_among left))
+          ap (λ t. t ++ lines_text (lines_among left)) (adds.lines ∙ ap (λ n. so ++ line_text_at path (Some n)) same)
+          ∙ (append_assoc so (line_text_at path (Some next.0)) (lines_text (lines_among left))
           ∙ (ap (λ t. so ++ t) (sym (first_line path next.0 left) ∙ ap (λ es. lines_text (lines_among es)) (sym next.2)) ∙ was.lines));
       flagged =
           ap (λ b. b || has_flags (lines_among left)) (adds.flags ∙ ap (λ n. flags || flag_of_node (Some n)) same)

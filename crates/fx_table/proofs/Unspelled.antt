@@ -1,18 +1,18 @@
 -- A spelled text is read byte by byte.
 use Rattle.std.proofs.Common.{◌≡◌, ℕ, ◌+◌, List, [], ◌∷◌, ◌++◌, drop, Option, Some, None, option_map, refl, sym, ◌∙◌, ap, append_assoc}
 use Rattle.std.proofs.lemmas.List.{drop-drop}
-use Rattle.fx_table.specs.TableSpelling.{onto, unspelled}
-use Rattle.fx_table.specs.Unspells.{GoesOn}
+use Rattle.fx_table.specs.TableSpelling.{byte_before, unspelled}
+use Rattle.fx_table.specs.Unspells.{SpellsByte}
 
 -- bytes before those that are still to be read
 abbrev pub joined : List ℕ → Option (List ℕ) → Option (List ℕ)
 joined bytes rest = option_map (λ more. bytes ++ more) rest
 
-joined_onto : (bytes : List ℕ) (b : ℕ) (o : Option (List ℕ)) → joined bytes (onto (Some b) o) ≡ joined (bytes ++ b ∷ []) o
+joined_onto : (bytes : List ℕ) (b : ℕ) (o : Option (List ℕ)) → joined bytes (byte_before (Some b) o) ≡ joined (bytes ++ b ∷ []) o
 joined_onto bytes b None = refl
 joined_onto bytes b (Some more) = ap (λ l. Some l) (sym (append_assoc bytes (b ∷ []) more))
 
-pub one_more : (text bytes new : List ℕ) (i b n : ℕ) → unspelled text ≡ joined bytes (unspelled (drop i text)) → GoesOn (drop i text) b n → new ≡ bytes ++ b ∷ [] → unspelled text ≡ joined new (unspelled (drop (i + n) text))
+pub one_more : (text bytes new : List ℕ) (i b n : ℕ) → unspelled text ≡ joined bytes (unspelled (drop i text)) → SpellsByte (drop i text) b n → new ≡ bytes ++ b ∷ [] → unspelled text ≡ joined new (unspelled (drop (i + n) text))
 one_more text bytes new i b n so first is =
     so ∙ ap (joined bytes) first.is ∙ joined_onto bytes b (unspelled (drop n (drop i text)))
     ∙ ap (λ l. joined l (unspelled (drop n (drop i text)))) (sym is)

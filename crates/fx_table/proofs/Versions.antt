@@ -5,8 +5,8 @@ use Rattle.std.proofs.lemmas.Bool.{false≢true, not-false, or_parts}
 use Rattle.std.proofs.lemmas.Slice.Eq.{bytes_eq-Decides}
 use Rattle.std.proofs.lemmas.List.Elements.{All-nil, All-cons, All-head, All-tail}
 use Rattle.fx_store.specs.Whole.{Store}
-use Rattle.fx_table.specs.Table.{Mark, Target, Executable, TableLine, mark_text, lines_text, is_flag, has_flags, version_line, table_text, Setting, over, has_place, can_mark, read_from, is_second, body_of, first_number, setting_of, read_body, lacks_flags, unless_lacking, read_table, IsLine, AreLinesOver, IsTable}
-use Rattle.fx_table.specs.TableLaws.{Spells, IsFirstBadOf, IsFirstBadLine}
+use Rattle.fx_table.specs.Table.{Mark, Target, Executable, TableLine, mark_text, lines_text, is_flag_mark, has_flags, version_line, table_text, Setting, over, has_place, can_mark, read_from, is_second, body_of, first_number, setting_of, read_body, lacks_flags, unless_lacking, read_table, IsLine, AreLinesOver, IsTable}
+use Rattle.fx_table.specs.TableLaws.{SpellsTable, IsFirstBadOf, IsFirstBadLine}
 use Rattle.fx_table.specs.TableSpelling.{spelling}
 use Rattle.fx_store.specs.Names.{path_text}
 use Rattle.fx_table.proofs.TableLines.{lines_are_read, texts_are_lines, lines_are_readable, bad_line_is_first}
@@ -51,7 +51,7 @@ split text = split_by text (is_second text) refl
 
 -- ---- flags, and the settings that allow them
 
-marks_without : (S : Store) (path : List (List ℕ)) (mark : Mark) → is_flag mark ≡ false → can_mark (over S true) path mark ≡ true → can_mark (over S false) path mark ≡ true
+marks_without : (S : Store) (path : List (List ℕ)) (mark : Mark) → is_flag_mark mark ≡ false → can_mark (over S true) path mark ≡ true → can_mark (over S false) path mark ≡ true
 marks_without S path (Target text) plain can = can
 marks_without S path Executable plain can = absurd (false≢true (sym plain))
 
@@ -60,7 +60,7 @@ marks_with S true path mark can = can
 marks_with S false path (Target text) can = can
 marks_with S false path Executable can = absurd (false≢true can)
 
-no_mark : (S : Store) (path : List (List ℕ)) (mark : Mark) → can_mark (over S false) path mark ≡ true → is_flag mark ≡ false
+no_mark : (S : Store) (path : List (List ℕ)) (mark : Mark) → can_mark (over S false) path mark ≡ true → is_flag_mark mark ≡ false
 no_mark S path (Target text) can = refl
 no_mark S path Executable can = absurd (false≢true can)
 
@@ -70,7 +70,7 @@ Stands S l = IsTrue (has_place S l)
 stand_without : (S : Store) (lines : List TableLine) → has_flags lines ≡ false → All (Stands (over S true)) lines → All (Stands (over S false)) lines
 stand_without S [] none all = All-nil (Stands (over S false))
 stand_without S (l ∷ lines) none all =
-    let both = or_parts (is_flag l.mark) (has_flags lines) none in
+    let both = or_parts (is_flag_mark l.mark) (has_flags lines) none in
     All-cons (Stands (over S false)) l lines (marks_without S l.path l.mark both.0 (All-head (Stands (over S true)) l lines all)) (stand_without S lines both.1 (All-tail (Stands (over S true)) l lines all))
 
 stand_with : (S : Store) (flags : Bool) (lines : List TableLine) → All (Stands (over S flags)) lines → All (Stands (over S true)) lines
@@ -129,7 +129,7 @@ lacking true found number e = (refl, cc)
 lacking false found number e = absurd (false≢true (sym (ap is_ok e)))
 
 -- a text whose lines are good and do not lack flags
-pub spells : (S : Store) (text : List ℕ) (lines : List TableLine) → AreLinesOver (setting_of S text) lines → body_of text ≡ lines_text lines → lacks_flags text lines ≡ false → Spells S text lines
+pub spells : (S : Store) (text : List ℕ) (lines : List TableLine) → AreLinesOver (setting_of S text) lines → body_of text ≡ lines_text lines → lacks_flags text lines ≡ false → SpellsTable S text lines
 spells S text lines t body lacks =
     let flags = flags_by S lines (is_second text) t lacks in
     record {
@@ -137,14 +137,14 @@ spells S text lines t body lacks =
       table = over_all S lines (is_second text) t;
     }
 
-pub read_texts_are_tables : (S : Store) (text : List ℕ) (lines : List TableLine) → read_table S text ≡ Ok lines → Spells S text lines
+pub read_texts_are_tables : (S : Store) (text : List ℕ) (lines : List TableLine) → read_table S text ≡ Ok lines → SpellsTable S text lines
 read_texts_are_tables S text lines e = by (read_body S text) refl e
   where
-    by : (r : Lines) → read_body S text ≡ r → unless_lacking text r ≡ Ok lines → Spells S text lines
+    by : (r : Lines) → read_body S text ≡ r → unless_lacking text r ≡ Ok lines → SpellsTable S text lines
     by (Ok found) is e =
         let both = unlacking (lacks_flags text found) found lines e in
         let all = texts_are_lines (setting_of S text) (first_number text) (body_of text) found is in
-        subst (Spells S text) both.1 (spells S text found all.table all.spelled both.0)
+        subst (SpellsTable S text) both.1 (spells S text found all.table all.spelled both.0)
     by (Err n) is e = absurd (false≢true (ap is_ok e))
 
 -- ---- the first bad line

@@ -19,14 +19,14 @@ use Rattle.fx_table.specs.Table.{TableLine, Mark, Target, Executable, TableLink,
 abbrev pub link_change : TableLink → Change
 link_change link = record { path = link.path; node = Some (Link link.text) }
 
-abbrev pub text_in : Option Node → List ℕ
-text_in None = []
-text_in (Some (File bytes exec)) = []
-text_in (Some (Dir names)) = []
-text_in (Some (Link text)) = text
+abbrev pub link_text_in : Option Node → List ℕ
+link_text_in None = []
+link_text_in (Some (File bytes exec)) = []
+link_text_in (Some (Dir names)) = []
+link_text_in (Some (Link text)) = text
 
 abbrev pub link_in : Change → TableLink
-link_in c = record { path = c.path; text = text_in c.node }
+link_in c = record { path = c.path; text = link_text_in c.node }
 
 abbrev pub links_in : List Change → List TableLink
 links_in changes = map link_in changes
@@ -84,12 +84,12 @@ pub record DecidesFollow (s : Setting) (changes : List Change) (line : TableLine
   pub fails : can ≡ false → CanFollow s changes line → ⊥
 
 -- the bytes in the texts of links
-abbrev pub texts_of : List TableLink → ℕ
-texts_of links = sum_by (λ (l : TableLink). length l.text) links
+abbrev pub link_bytes : List TableLink → ℕ
+link_bytes links = sum_by (λ (l : TableLink). length l.text) links
 
 -- there is no room for so many links, or for so many bytes in their texts
 abbrev pub is_over : Room → List TableLink → Bool
-is_over room links = nat_lt room.links (length links) || nat_lt room.bytes (texts_of links)
+is_over room links = nat_lt room.links (length links) || nat_lt room.bytes (link_bytes links)
 
 abbrev pub is_over_by : Room → List TableLine → Bool
 is_over_by room lines = is_over room (links_among lines)

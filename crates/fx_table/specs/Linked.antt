@@ -34,13 +34,13 @@ TableCause nodes text ReadFault = ⊥
 TableCause nodes text NoMemory = ⊤
 
 -- a node without what it holds: a directory without names, or an empty file
-abbrev pub bare_node : Node → Node
-bare_node (File bytes exec) = File [] false
-bare_node (Dir names) = Dir []
-bare_node (Link text) = File [] false
+abbrev pub emptied_node : Node → Node
+emptied_node (File bytes exec) = File [] false
+emptied_node (Dir names) = Dir []
+emptied_node (Link text) = File [] false
 
 abbrev pub bare : Mapped → Mapped
-bare (path, node) = (path, bare_node node)
+bare (path, node) = (path, emptied_node node)
 
 -- one path more, with its bare node
 abbrev pub AddsBare : List (List ℕ) → Node → List Change → List Change → Type 0
@@ -51,16 +51,16 @@ differs true was = not was
 differs false was = was
 
 -- the file that stands at a path, with another flag
-abbrev pub flag_change : List (List ℕ) → Bool → Option Node → Option Change
-flag_change path exec None = None
-flag_change path exec (Some (File bytes was)) = cond (differs exec was) (Some (record { path = path; node = Some (File bytes exec) })) None
-flag_change path exec (Some (Dir names)) = None
-flag_change path exec (Some (Link text)) = None
+abbrev pub changed_flag : List (List ℕ) → Bool → Option Node → Option Change
+changed_flag path exec None = None
+changed_flag path exec (Some (File bytes was)) = cond (differs exec was) (Some (record { path = path; node = Some (File bytes exec) })) None
+changed_flag path exec (Some (Dir names)) = None
+changed_flag path exec (Some (Link text)) = None
 
 -- of a file that is bare a change of its flag is kept, where a file stands, and all else is kept
 abbrev pub kept_change : List (List ℕ) → Option Node → Option Node → Option Change
 kept_change path there None = Some (record { path = path; node = None })
-kept_change path there (Some (File bytes exec)) = flag_change path exec there
+kept_change path there (Some (File bytes exec)) = changed_flag path exec there
 kept_change path there (Some (Dir names)) = Some (record { path = path; node = Some (Dir names) })
 kept_change path there (Some (Link text)) = Some (record { path = path; node = Some (Link text) })
 
@@ -76,7 +76,7 @@ flag_in (Some (Link text)) = None
 
 -- one change more, if the flag is another
 abbrev pub KeepsFlag : Bool → List (List ℕ) → Option Node → List Change → List Change → Type 0
-KeepsFlag exec path node old new = new ≡ old ++ cons_option (flag_change path exec node) []
+KeepsFlag exec path node old new = new ≡ old ++ cons_option (changed_flag path exec node) []
 
 -- one change more, if it is kept
 abbrev pub Keeps : Nodes → Change → List Change → List Change → Type 0

@@ -27,7 +27,7 @@ pub record CanMerge (es : List Mapped) (links : List TableLink) : Type 0 where
   pub ascending : IsStrictlySortedBy path_cmp (map (λ (l : TableLink). l.path) links)
 
 -- links were moved, all of them from before the path
-pub record Moves (old new : List Change) (path : List (List ℕ)) (all all' : List Change) : Type 0 where
+pub record MovesLinks (old new : List Change) (path : List (List ℕ)) (all all' : List Change) : Type 0 where
   pub taken : List TableLink
   pub pend : pending old ≡ taken ++ pending new
   pub moved : all' ≡ all ++ map link_change taken
@@ -40,5 +40,5 @@ StopsAt path (l ∷ ls) = path_cmp l.path path ≡ Less → ⊥
 
 -- and all that stand before it
 pub record MovesAll (old new : List Change) (path : List (List ℕ)) (all all' : List Change) : Type 0 where
-  pub moves : Moves old new path all all'
+  pub moves : MovesLinks old new path all all'
   pub stops : StopsAt path (pending new)

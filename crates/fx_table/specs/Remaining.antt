@@ -38,28 +38,28 @@ abbrev pub AreLevels : Nodes → List Level → Type 0
 AreLevels nodes levels = AllByRecursion (IsLevel nodes) levels
 
 -- the path of the directory's next name
-abbrev pub IsNextOf : Level → List (List ℕ) → Type 0
-IsNextOf level path = (name : List ℕ) × (slice_get level.names level.next ≡ Some name) × (path ≡ level.path ++ name ∷ [])
+abbrev pub IsNextPath : Level → List (List ℕ) → Type 0
+IsNextPath level path = (name : List ℕ) × (slice_get level.names level.next ≡ Some name) × (path ≡ level.path ++ name ∷ [])
 
 -- a directory is gone into from its first name on, if it lists one
-abbrev pub Enters : List Level → List (List ℕ) → List (List ℕ) → List Level → Type 0
-Enters old path [] new = new ≡ old
-Enters old path (name ∷ names) new = new ≡ old ++ record { path = path; names = name ∷ names; next = 0 } ∷ []
+abbrev pub EntersDirectory : List Level → List (List ℕ) → List (List ℕ) → List Level → Type 0
+EntersDirectory old path [] new = new ≡ old
+EntersDirectory old path (name ∷ names) new = new ≡ old ++ record { path = path; names = name ∷ names; next = 0 } ∷ []
 
 -- the path is the first of those that were left, and the others are left
-abbrev pub ComesNext : Nodes → List (List (List ℕ) × Node) → List (List (List ℕ) × Node) → Option (List (List ℕ)) → Type 0
-ComesNext nodes old new None = old ≡ []
-ComesNext nodes old new (Some path) = (node : Node) × (get nodes path ≡ Some node) × (old ≡ (path, node) ∷ new)
+abbrev pub TakesPath : Nodes → List (List (List ℕ) × Node) → List (List (List ℕ) × Node) → Option (List (List ℕ)) → Type 0
+TakesPath nodes old new None = old ≡ []
+TakesPath nodes old new (Some path) = (node : Node) × (get nodes path ≡ Some node) × (old ≡ (path, node) ∷ new)
 
 -- an entry is the first of those that were left, and the others are left
-pub record IsEntry (nodes : Nodes) (old new : List (List (List ℕ) × Node)) (e : Entry) : Type 0 where
+pub record TakesEntry (nodes : Nodes) (old new : List (List (List ℕ) × Node)) (e : Entry) : Type 0 where
   pub some : 0 < length e.path
   pub node : get nodes e.path ≡ Some e.node.now
-  pub next : ComesNext nodes old new (Some e.path)
+  pub next : TakesPath nodes old new (Some e.path)
 
-abbrev pub ComesTo : Nodes → List (List (List ℕ) × Node) → List (List (List ℕ) × Node) → Option Entry → Type 0
-ComesTo nodes old new None = ComesNext nodes old new None
-ComesTo nodes old new (Some e) = IsEntry nodes old new e
+abbrev pub TakesNext : Nodes → List (List (List ℕ) × Node) → List (List (List ℕ) × Node) → Option Entry → Type 0
+TakesNext nodes old new None = TakesPath nodes old new None
+TakesNext nodes old new (Some e) = TakesEntry nodes old new e
 
 -- all but the root is left
 abbrev pub IsLeftBelow : Nodes → List (List (List ℕ) × Node) → Type 0

@@ -16,10 +16,10 @@ use Rattle.fx_table.specs.Mapped.{mapped_of}
 use Rattle.fx_table.specs.Table.{is_dir}
 
 -- within the limits, whichever bytes a file holds
-abbrev pub IsLeaf : Node → Type 0
-IsLeaf (File bytes exec) = length bytes ≤ MAX_FILE_BYTES
-IsLeaf (Dir names) = ⊤
-IsLeaf (Link text) = IsLinkText text
+abbrev pub IsNodeBounded : Node → Type 0
+IsNodeBounded (File bytes exec) = length bytes ≤ MAX_FILE_BYTES
+IsNodeBounded (Dir names) = ⊤
+IsNodeBounded (Link text) = IsLinkText text
 
 -- what a file holds is bytes
 abbrev pub IsOfBytes : Node → Type 0
@@ -31,11 +31,11 @@ abbrev pub AreOfBytes : Store → Type 0
 AreOfBytes S = (path : List (List ℕ)) → IfSome (S path) IsOfBytes
 
 -- a root, and a directory above each path; what the directories list is left open
-pub record IsShaped (S : Store) : Type 0 where
+pub record IsTreeShaped (S : Store) : Type 0 where
   pub root : is_dir (S []) ≡ true
   pub above : (path : Parts) (name : List ℕ) → is_some (S (path ++ name ∷ [])) ≡ true → is_dir (S path) ≡ true
   pub paths : (path : Parts) → IsSome (S path) → IsPath path
-  pub leaves : (path : Parts) → IfSome (S path) IsLeaf
+  pub leaves : (path : Parts) → IfSome (S path) IsNodeBounded
 
 -- the change that sets a node at its path
 abbrev pub change_of : Mapped → Change
@@ -52,7 +52,7 @@ made_by changes path = find path_cmp path (mapped_of changes)
 pub record AreShaped (changes : List Change) : Type 0 where
   pub set : changes ≡ changes_of (mapped_of changes)
   pub ascending : IsStrictlySortedBy path_cmp (keys_of (mapped_of changes))
-  pub shape : IsShaped (made_by changes)
+  pub shape : IsTreeShaped (made_by changes)
   pub bytes : AreOfBytes (made_by changes)
 
 -- in the order of their paths, so that the names below each directory are a set

@@ -36,12 +36,12 @@ line_of line = spelling (path_text line.path) ++ mark_text line.mark
 abbrev pub lines_text : List TableLine → List ℕ
 lines_text lines = flat_map (λ l. line_of l ++ 10 ∷ []) lines
 
-abbrev pub is_flag : Mark → Bool
-is_flag (Target text) = false
-is_flag Executable = true
+abbrev pub is_flag_mark : Mark → Bool
+is_flag_mark (Target text) = false
+is_flag_mark Executable = true
 
 abbrev pub has_flags : List TableLine → Bool
-has_flags lines = list_any (λ (l : TableLine). is_flag l.mark) lines
+has_flags lines = list_any (λ (l : TableLine). is_flag_mark l.mark) lines
 
 -- what a table of version 2 begins with
 abbrev pub version_line : List ℕ
@@ -70,13 +70,13 @@ lines_of nodes = filter_map line_at (entries nodes)
 -- ---- how a line is read
 
 -- a path and a text of a link that were read
-abbrev pub linked : Result (List (List ℕ)) PathFault → Result (List ℕ) PathFault → Option TableLine
-linked (Ok path) (Ok text) = Some (record { path = path; mark = Target text })
-linked (Ok path) (Err fault) = None
-linked (Err fault) text = None
+abbrev pub linked_line : Result (List (List ℕ)) PathFault → Result (List ℕ) PathFault → Option TableLine
+linked_line (Ok path) (Ok text) = Some (record { path = path; mark = Target text })
+linked_line (Ok path) (Err fault) = None
+linked_line (Err fault) text = None
 
 abbrev pub link_of : Option (List ℕ) → Option (List ℕ) → Option TableLine
-link_of (Some path) (Some text) = linked (read_path path) (read_link text)
+link_of (Some path) (Some text) = linked_line (read_path path) (read_link text)
 link_of (Some path) None = None
 link_of None text = None
 
@@ -256,4 +256,4 @@ links_among lines = filter_map (λ (l : TableLine). link_in_line l.path l.mark) 
 -- the line of a path says that the file there is executable
 abbrev pub flag_at : List TableLine → List (List ℕ) → Bool
 flag_at [] path = false
-flag_at (l ∷ lines) path = cond (eq_by_cmp path_cmp path l.path) (is_flag l.mark) (flag_at lines path)
+flag_at (l ∷ lines) path = cond (eq_by_cmp path_cmp path l.path) (is_flag_mark l.mark) (flag_at lines path)

@@ -16,8 +16,8 @@ abbrev pub executable : List (List ℕ) → TableLine
 executable path = record { path = path; mark = Executable }
 
 -- each of the lines with its line feed
-abbrev pub lines : List (List ℕ) → List ℕ
-lines texts = flat_map (λ text. text ++ 10 ∷ []) texts
+abbrev pub lines_with_feeds : List (List ℕ) → List ℕ
+lines_with_feeds texts = flat_map (λ text. text ++ 10 ∷ []) texts
 
 -- a name with a space, a `%` and a letter of two bytes
 abbrev pub spaced : List TableLine
@@ -27,33 +27,33 @@ abbrev pub three : List TableLine
 three = link (codes "a b" ∷ []) (codes "../x") ∷ link (codes "cur" ∷ []) (codes "p") ∷ link (codes "p" ∷ codes "up" ∷ []) (codes "/") ∷ []
 
 -- a link and an executable file
-abbrev pub flagged : List TableLine
-flagged = link (codes "cur" ∷ []) (codes "p") ∷ executable (codes "f" ∷ []) ∷ []
+abbrev pub flagged_table : List TableLine
+flagged_table = link (codes "cur" ∷ []) (codes "p") ∷ executable (codes "f" ∷ []) ∷ []
 
 abbrev pub second : List (List ℕ) → List ℕ
-second texts = lines (codes "version 2" ∷ texts)
+second texts = lines_with_feeds (codes "version 2" ∷ texts)
 
 pub record TableExamples : Type 0 where
-  pub spaced_text : table_text spaced ≡ lines (codes "/a%20b%25%C3%A9 -> ../x" ∷ [])
-  pub three_text : table_text three ≡ lines (codes "/a%20b -> ../x" ∷ codes "/cur -> p" ∷ codes "/p/up -> /" ∷ [])
+  pub spaced_text : table_text spaced ≡ lines_with_feeds (codes "/a%20b%25%C3%A9 -> ../x" ∷ [])
+  pub three_text : table_text three ≡ lines_with_feeds (codes "/a%20b -> ../x" ∷ codes "/cur -> p" ∷ codes "/p/up -> /" ∷ [])
   pub spaced_read : read_table base (table_text spaced) ≡ Ok spaced
   pub three_read : read_table base (table_text three) ≡ Ok three
   pub empty : read_table base [] ≡ Ok []
   pub no_feed : read_table base (codes "/cur -> p") ≡ Err 1
-  pub empty_line : read_table base (lines ([] ∷ [])) ≡ Err 1
-  pub no_arrow : read_table base (lines (codes "/cur = p" ∷ [])) ≡ Err 1
-  pub lower_case : read_table base (lines (codes "/a%2f -> p" ∷ [])) ≡ Err 1
-  pub needless_escape : read_table base (lines (codes "/%61 -> p" ∷ [])) ≡ Err 1
-  pub root : read_table base (lines (codes "/ -> p" ∷ [])) ≡ Err 1
-  pub no_path : read_table base (lines (codes "a -> p" ∷ [])) ≡ Err 1
-  pub no_link_text : read_table base (lines (codes "/a -> p/" ∷ [])) ≡ Err 1
-  pub taken : read_table base (lines (codes "/p -> x" ∷ [])) ≡ Err 1
-  pub no_parent : read_table base (lines (codes "/q/a -> x" ∷ [])) ≡ Err 1
-  pub twice : read_table base (lines (codes "/l -> a" ∷ codes "/l -> b" ∷ [])) ≡ Err 2
-  pub below_link : read_table base (lines (codes "/l -> p" ∷ codes "/l/a -> b" ∷ [])) ≡ Err 2
-  pub descending : read_table base (lines (codes "/p-x -> a" ∷ codes "/p/up -> b" ∷ [])) ≡ Err 2
-  pub flagged_text : table_text flagged ≡ second (codes "/cur -> p" ∷ codes "/f *" ∷ [])
-  pub flagged_read : read_table base (table_text flagged) ≡ Ok flagged
+  pub empty_line : read_table base (lines_with_feeds ([] ∷ [])) ≡ Err 1
+  pub no_arrow : read_table base (lines_with_feeds (codes "/cur = p" ∷ [])) ≡ Err 1
+  pub lower_case : read_table base (lines_with_feeds (codes "/a%2f -> p" ∷ [])) ≡ Err 1
+  pub needless_escape : read_table base (lines_with_feeds (codes "/%61 -> p" ∷ [])) ≡ Err 1
+  pub root : read_table base (lines_with_feeds (codes "/ -> p" ∷ [])) ≡ Err 1
+  pub no_path : read_table base (lines_with_feeds (codes "a -> p" ∷ [])) ≡ Err 1
+  pub no_link_text : read_table base (lines_with_feeds (codes "/a -> p/" ∷ [])) ≡ Err 1
+  pub taken : read_table base (lines_with_feeds (codes "/p -> x" ∷ [])) ≡ Err 1
+  pub no_parent : read_table base (lines_with_feeds (codes "/q/a -> x" ∷ [])) ≡ Err 1
+  pub twice : read_table base (lines_with_feeds (codes "/l -> a" ∷ codes "/l -> b" ∷ [])) ≡ Err 2
+  pub below_link : read_table base (lines_with_feeds (codes "/l -> p" ∷ codes "/l/a -> b" ∷ [])) ≡ Err 2
+  pub descending : read_table base (lines_with_feeds (codes "/p-x -> a" ∷ codes "/p/up -> b" ∷ [])) ≡ Err 2
+  pub flagged_text : table_text flagged_table ≡ second (codes "/cur -> p" ∷ codes "/f *" ∷ [])
+  pub flagged_read : read_table base (table_text flagged_table) ≡ Ok flagged_table
   pub flag_of_folder : read_table base (second (codes "/p *" ∷ [])) ≡ Err 2
   pub flag_of_nothing : read_table base (second (codes "/cur -> p" ∷ codes "/e *" ∷ [])) ≡ Err 3
   pub flag_of_link : read_table base (second (codes "/cur -> p" ∷ codes "/cur *" ∷ [])) ≡ Err 3
@@ -62,10 +62,10 @@ pub record TableExamples : Type 0 where
   pub flag_of_no_path : read_table base (second (codes "f *" ∷ [])) ≡ Err 2
   pub two_stars : read_table base (second (codes "/f **" ∷ [])) ≡ Err 2
   pub no_feed_behind_flag : read_table base (codes "version 2" ++ 10 ∷ codes "/f *") ≡ Err 2
-  pub flag_of_version_1 : read_table base (lines (codes "/f *" ∷ [])) ≡ Err 1
+  pub flag_of_version_1 : read_table base (lines_with_feeds (codes "/f *" ∷ [])) ≡ Err 1
   pub version_alone : read_table base (second []) ≡ Err 1
   pub version_without_feed : read_table base (codes "version 2") ≡ Err 1
   pub version_in_vain : read_table base (second (codes "/cur -> p" ∷ [])) ≡ Err 1
   pub version_of_links_with_a_bad_one : read_table base (second (codes "/cur -> p" ∷ codes "/p -> x" ∷ [])) ≡ Err 3
   pub version_twice : read_table base (second (codes "version 2" ∷ codes "/f *" ∷ [])) ≡ Err 2
-  pub version_3 : read_table base (lines (codes "version 3" ∷ codes "/f *" ∷ [])) ≡ Err 1
+  pub version_3 : read_table base (lines_with_feeds (codes "version 3" ∷ codes "/f *" ∷ [])) ≡ Err 1

@@ -11,12 +11,12 @@ abbrev pub TablesAreRead : Type 0
 TablesAreRead = (S : Store) (lines : List TableLine) → IsTable S lines → read_table S (table_text lines) ≡ Ok lines
 
 -- a text that is read is the text of the table that was read
-pub record Spells (S : Store) (text : List ℕ) (lines : List TableLine) : Type 0 where
+pub record SpellsTable (S : Store) (text : List ℕ) (lines : List TableLine) : Type 0 where
   pub spelled : text ≡ table_text lines
   pub table : IsTable S lines
 
 abbrev pub ReadTextsAreTables : Type 0
-ReadTextsAreTables = (S : Store) (text : List ℕ) (lines : List TableLine) → read_table S text ≡ Ok lines → Spells S text lines
+ReadTextsAreTables = (S : Store) (text : List ℕ) (lines : List TableLine) → read_table S text ≡ Ok lines → SpellsTable S text lines
 
 -- different lines have different texts
 abbrev pub TablesAreReadable : Type 0
@@ -24,7 +24,7 @@ TablesAreReadable = (lines others : List TableLine) → All IsLine lines → All
 
 -- behind lines, of which the first has a number, the next has this number: it is bad, since with one line more of the rest they
 -- do not have their places
-pub record StopsAt (s : Setting) (first : ℕ) (lines : List TableLine) (rest : List ℕ) (number : ℕ) : Type 0 where
+pub record StopsAtLine (s : Setting) (first : ℕ) (lines : List TableLine) (rest : List ℕ) (number : ℕ) : Type 0 where
   pub place : number ≡ length lines + first
   pub some : rest ≡ [] → ⊥
   pub stops : (line : TableLine) (later : List ℕ) → rest ≡ line_of line ++ 10 ∷ later → AreLinesOver s (lines ++ line ∷ []) → ⊥
@@ -35,7 +35,7 @@ pub record IsFirstBadOf (s : Setting) (first : ℕ) (body : List ℕ) (number : 
   pub rest : List ℕ
   pub parts : body ≡ lines_text lines ++ rest
   pub table : AreLinesOver s lines
-  pub bad : StopsAt s first lines rest number
+  pub bad : StopsAtLine s first lines rest number
 
 -- nothing is left behind good lines, and the text is of version 2 in vain
 pub record LacksFlags (text : List ℕ) (lines : List TableLine) (rest : List ℕ) (number : ℕ) : Type 0 where
@@ -49,7 +49,7 @@ pub record IsFirstBadLine (S : Store) (text : List ℕ) (number : ℕ) : Type 0 
   pub rest : List ℕ
   pub parts : body_of text ≡ lines_text lines ++ rest
   pub table : AreLinesOver (setting_of S text) lines
-  pub bad : StopsAt (setting_of S text) (first_number text) lines rest number ⊎ LacksFlags text lines rest number
+  pub bad : StopsAtLine (setting_of S text) (first_number text) lines rest number ⊎ LacksFlags text lines rest number
 
 -- lines at the front of a text have their places
 pub record BeginsWith (S : Store) (text : List ℕ) (lines : List TableLine) : Type 0 where

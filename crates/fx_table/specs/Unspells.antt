@@ -5,18 +5,18 @@ use Rattle.fx_store.specs.declared.path.Path.{Path}
 use Rattle.fx_store.specs.declared.link.LinkText.{LinkText}
 use Rattle.fx_store.specs.Faults.{read_path, read_link}
 use Rattle.fx_table.specs.Table.{TableLine, link_of, flag_of}
-use Rattle.fx_table.specs.TableSpelling.{onto, unspelled}
+use Rattle.fx_table.specs.TableSpelling.{byte_before, unspelled}
 
 -- a byte, and the characters behind those that spell it
-pub record GoesOn (text : List ℕ) (byte count : ℕ) : Type 0 where
+pub record SpellsByte (text : List ℕ) (byte count : ℕ) : Type 0 where
   pub some : 0 < count
   pub within : count ≤ length text
-  pub is : unspelled text ≡ onto (Some byte) (unspelled (drop count text))
+  pub is : unspelled text ≡ byte_before (Some byte) (unspelled (drop count text))
 
 -- the text spells bytes of which this is the first, or no bytes
-abbrev pub IsFirst : List ℕ → Option (ℕ × ℕ) → Type 0
-IsFirst text None = unspelled text ≡ None
-IsFirst text (Some first) = GoesOn text first.0 first.1
+abbrev pub IsFirstByte : List ℕ → Option (ℕ × ℕ) → Type 0
+IsFirstByte text None = unspelled text ≡ None
+IsFirstByte text (Some first) = SpellsByte text first.0 first.1
 
 abbrev pub result_ok : {A : Type 0} → Result A PathFault → Option A
 result_ok (Ok a) = Some a

@@ -2,7 +2,7 @@
 ghost use Rattle.std.specs.Prelude.{◌≡◌, ◌<◌, ◌++◌, suc, Some, ◌∷◌, [], length, drop, IfOk, OnOk, IsSome, option_copied};
 ghost use Rattle.std.specs.FinMap.{get};
 ghost use Rattle.fx_store.specs.Whole.{Nodes, IsWhole};
-ghost use Rattle.fx_table.specs.Remaining.{Enters, IsNextOf, IsLevel, AreLevels, left_of, from_names, names_in, ComesTo, IsEntry, IsLeftBelow};
+ghost use Rattle.fx_table.specs.Remaining.{EntersDirectory, IsNextPath, IsLevel, AreLevels, left_of, from_names, names_in, TakesNext, TakesEntry, IsLeftBelow};
 
 use fx_base::NoMemory;
 use fx_store::{Filestore, Names, Node, Path};
@@ -51,7 +51,7 @@ impl Descent {
         requires whole { IsWhole (get store.now.nodes) }
         requires levels { AreLevels store.now.nodes self.old.levels.items }
         ensures levels { OnOk result (AreLevels store.now.nodes self.new.levels.items) }
-        ensures next { IfOk result (ComesTo store.now.nodes
+        ensures next { IfOk result (TakesNext store.now.nodes
             (left_of store.now.nodes self.old.levels.items)
             (left_of store.now.nodes self.new.levels.items)) }
     {
@@ -73,7 +73,7 @@ fn step<'a>(
     requires level { IsLevel store.now.nodes level }
     requires levels { AreLevels store.now.nodes levels.old.items }
     ensures levels { OnOk result (AreLevels store.now.nodes levels.new.items) }
-    ensures next { IfOk result (IsEntry store.now.nodes
+    ensures next { IfOk result (TakesEntry store.now.nodes
         (left_of store.now.nodes (levels.old.items ++ level ∷ []))
         (left_of store.now.nodes levels.new.items)) }
 {
@@ -89,7 +89,7 @@ fn step<'a>(
 fn child(alloc: Global, level: &Level) -> Result<Path, NoMemory>
     requires room { length level.now.path < 64 }
     requires more { level.now.next < length level.now.names }
-    ensures { IfOk result (IsNextOf level.now) }
+    ensures { IfOk result (IsNextPath level.now) }
 {
     let Some(name) = level.names.at(level.next) else {
         unreachable!()
@@ -144,7 +144,7 @@ fn enter<'a>(
 
 /// Goes into a directory that lists something.
 fn push(alloc: Global, levels: &mut Vec<Level>, path: &Path, names: &Names) -> Result<(), NoMemory>
-    ensures { OnOk result (Enters levels.old.items path.now names.now levels.new.items) }
+    ensures { OnOk result (EntersDirectory levels.old.items path.now names.now levels.new.items) }
 {
     if names.len() == 0 {
         return Ok(());

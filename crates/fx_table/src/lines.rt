@@ -1,7 +1,7 @@
 //! The reader of a table's lines.
 ghost use Rattle.std.specs.Prelude.{◌≡◌, ◌≤◌, ◌∷◌, [], ◌&&◌, cond, not, IfOk, IfErr};
 ghost use Rattle.fx_store.specs.Whole.{Store};
-ghost use Rattle.fx_table.specs.Table.{can_stand, is_file, over, has_flags, is_second, body_of, has_place, is_flag, read_line, read_parts, Target};
+ghost use Rattle.fx_table.specs.Table.{can_stand, is_file, over, has_flags, is_second, body_of, has_place, is_flag_mark, read_line, read_parts, Target};
 ghost use Rattle.fx_table.specs.Lines.{FindsFirst, DecidesFollow, AreLines, ReadsNext, StopsNext, ReadsBody, BodyCause, ReadsAll, LinesCause, TakesRoom, line_change, lines_in, mark_in, mark_node};
 ghost use Rattle.fx_table.specs.Places.{place_of, table_name};
 
@@ -115,7 +115,7 @@ fn has_flags(lines: &Changes) -> bool
 
 /// Whether a change stands for an executable file, and for no link.
 fn is_flag(line: &Change) -> bool
-    ensures { result ≡ is_flag (mark_in line.now.node) }
+    ensures { result ≡ is_flag_mark (mark_in line.now.node) }
 {
     match &line.node {
         Some(Node::Link(_)) => false,

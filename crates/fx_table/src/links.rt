@@ -5,8 +5,8 @@ ghost use Rattle.std.specs.List.{flat_map};
 ghost use Rattle.std.specs.Fmt.{digit_glyph};
 ghost use Rattle.fx_store.specs.Whole.{IsWhole};
 ghost use Rattle.fx_table.specs.Table.{table_text, lines_of, version_line};
-ghost use Rattle.fx_table.specs.Texts.{link_text, flag_text, text_at, flag_of_node, AddsLine, whole_text};
-ghost use Rattle.fx_table.specs.TableSpelling.{is_plain, spelled, spelling};
+ghost use Rattle.fx_table.specs.Texts.{link_text, flag_text, line_text_at, flag_of_node, AddsLine, whole_text};
+ghost use Rattle.fx_table.specs.TableSpelling.{is_plain_byte, spelled, spelling};
 
 use crate::descent::{Descent, Entry};
 use crate::lines::VERSION_LINE;
@@ -84,7 +84,7 @@ fn with_version(alloc: Global, lines: Vec<u8>, flags: bool) -> Result<Vec<u8>, N
 fn add_entry(text: &mut Vec<u8>, path: &Path, node: &Node) -> Result<bool, NoMemory>
     requires { 0 < length path.now }
     ensures text { OnOk result
-        (text.new.items ≡ text.old.items ++ text_at path.now (Some node.now)) }
+        (text.new.items ≡ text.old.items ++ line_text_at path.now (Some node.now)) }
     ensures flag { IfOk result (λ flag. flag ≡ flag_of_node (Some node.now)) }
 {
     match node {
@@ -163,7 +163,7 @@ fn add_byte(text: &mut Vec<u8>, byte: u8) -> Result<(), NoMemory>
 
 /// Whether a byte stands for itself.
 fn is_plain(byte: u8) -> bool
-    ensures { result ≡ is_plain byte }
+    ensures { result ≡ is_plain_byte byte }
 {
     if byte < b'!' {
         return false;

@@ -1,7 +1,7 @@
 //! How the table file spells bytes: the reader of a spelled text.
 ghost use Rattle.std.specs.Prelude.{◌≡◌, ◌+◌, ◌<◌, ◌≤◌, length, drop, Some, IfOk, IfSome, option_map};
-ghost use Rattle.fx_table.specs.TableSpelling.{is_plain, digit_value, escaped, plain_byte, unspelled};
-ghost use Rattle.fx_table.specs.Unspells.{IsFirst};
+ghost use Rattle.fx_table.specs.TableSpelling.{is_plain_byte, upper_digit_value, escaped, plain_byte, unspelled};
+ghost use Rattle.fx_table.specs.Unspells.{IsFirstByte};
 
 use fx_base::NoMemory;
 use std::alloc::Global;
@@ -27,7 +27,7 @@ pub(crate) fn unspelled(alloc: Global, text: &[u8]) -> Result<Option<Vec<u8>>, N
 /// The first byte that a text spells, and how many characters spell it.
 fn first_byte(text: &[u8]) -> Option<(u8, usize)>
     requires { 0 < length text.now }
-    ensures { IsFirst text.now result }
+    ensures { IsFirstByte text.now result }
 {
     if text.len() >= 3 {
         if text[0] == b'%' {
@@ -39,7 +39,7 @@ fn first_byte(text: &[u8]) -> Option<(u8, usize)>
 
 fn escaped_byte(high: u8, low: u8) -> Option<(u8, usize)>
     ensures { result ≡ option_map (λ b. record { 0 = b; 1 = 3 })
-        (escaped (digit_value high) (digit_value low)) }
+        (escaped (upper_digit_value high) (upper_digit_value low)) }
 {
     let high = digit_value(high)?;
     let low = digit_value(low)?;
@@ -62,7 +62,7 @@ fn plain_byte(character: u8) -> Option<(u8, usize)>
 /// The value of an upper-case hexadecimal digit.
 #[tactic(auto, using(std::proofs::lemmas::Bool::Decides::nat_tests))]
 fn digit_value(digit: u8) -> Option<u8>
-    ensures value { result ≡ digit_value digit }
+    ensures value { result ≡ upper_digit_value digit }
     ensures small { IfSome result (λ d. d < 16) }
 {
     if digit < 48 {
@@ -83,7 +83,7 @@ fn digit_value(digit: u8) -> Option<u8>
 /// Whether a character stands for itself.
 #[tactic(auto, using(std::proofs::lemmas::Bool::Decides::nat_tests))]
 fn is_plain(character: u8) -> bool
-    ensures { result ≡ is_plain character }
+    ensures { result ≡ is_plain_byte character }
 {
     if character < 33 {
         return false;

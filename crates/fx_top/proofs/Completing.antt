@@ -24,7 +24,7 @@ use Rattle.fx_run_command.proofs.Ending.{no_memory}
 use Rattle.fx_show.proofs.Completing.{show_completes}
 use Rattle.fx_views_command.proofs.Completing.{views_completes}
 use Rattle.fx_views_command.proofs.Ending as viewing
-use Rattle.fx_top.specs.Rows.{AsksInside, Row, LeavesDisk, KeepsOrder, IsProper, HasDiskFault, Completes}
+use Rattle.fx_top.specs.Rows.{AsksInside, Row, LeavesDisk, KeepsWrittenOrder, IsProper, HasDiskFault, Completes}
 use Rattle.fx_words.specs.Job.{Job, Run, Show, Gen, Large, Audit, Journal, Recover, Views}
 
 abbrev Ends : Status → Type 0
@@ -79,7 +79,7 @@ unread_disk (Journal j) disk = tt
 unread_disk (Recover j) disk = tt
 unread_disk (Views j) disk = refl
 
-pub unread_order : (j : Job) (host : HostView) (sink : SinkView) (disk : DiskView) → KeepsOrder j host sink sink disk disk
+pub unread_order : (j : Job) (host : HostView) (sink : SinkView) (disk : DiskView) → KeepsWrittenOrder j host sink sink disk disk
 unread_order (Run j) host sink disk = tt
 unread_order (Show j) host sink disk = tt
 unread_order (Gen j) host sink disk = tt

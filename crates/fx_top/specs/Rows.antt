@@ -43,15 +43,15 @@ LeavesDisk (Recover j) disk disk' = Unit {0}
 LeavesDisk (Views j) disk disk' = disk' ≡ disk
 
 -- a command that keeps a journal leaves on the disk the order of what it wrote, however it ends
-abbrev pub KeepsOrder : Job → HostView → SinkView → SinkView → DiskView → DiskView → Type 0
-KeepsOrder (Run j) host sink sink' disk disk' = Unit {0}
-KeepsOrder (Show j) host sink sink' disk disk' = Unit {0}
-KeepsOrder (Gen j) host sink sink' disk disk' = Unit {0}
-KeepsOrder (Large j) host sink sink' disk disk' = Unit {0}
-KeepsOrder (Audit j) host sink sink' disk disk' = Unit {0}
-KeepsOrder (Journal j) host sink sink' disk disk' = KeepsJournal j host sink sink' disk disk'
-KeepsOrder (Recover j) host sink sink' disk disk' = Unit {0}
-KeepsOrder (Views j) host sink sink' disk disk' = Unit {0}
+abbrev pub KeepsWrittenOrder : Job → HostView → SinkView → SinkView → DiskView → DiskView → Type 0
+KeepsWrittenOrder (Run j) host sink sink' disk disk' = Unit {0}
+KeepsWrittenOrder (Show j) host sink sink' disk disk' = Unit {0}
+KeepsWrittenOrder (Gen j) host sink sink' disk disk' = Unit {0}
+KeepsWrittenOrder (Large j) host sink sink' disk disk' = Unit {0}
+KeepsWrittenOrder (Audit j) host sink sink' disk disk' = Unit {0}
+KeepsWrittenOrder (Journal j) host sink sink' disk disk' = KeepsJournal j host sink sink' disk disk'
+KeepsWrittenOrder (Recover j) host sink sink' disk disk' = Unit {0}
+KeepsWrittenOrder (Views j) host sink sink' disk disk' = Unit {0}
 
 -- a command asks nothing but at its texts, in its FOLDER and in its OUT, and writes nothing but in its OUT
 abbrev pub AsksInside : Job → HostView → HostView → Type 0

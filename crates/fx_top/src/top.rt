@@ -2,9 +2,9 @@
 ghost use Rattle.std.specs.Prelude.{◌≡◌, ◌⊎◌, false, None, IfSome};
 ghost use Rattle.fx_words.specs.Job.{job_of};
 ghost use Rattle.fx_words.specs.JobOf.{asked_job, IsAnyJob};
-ghost use Rattle.fx_top.specs.Rows.{Row, LeavesDisk, KeepsOrder, AsksInside, Completes};
+ghost use Rattle.fx_top.specs.Rows.{Row, LeavesDisk, KeepsWrittenOrder, AsksInside, Completes};
 ghost use Rattle.fx_top.specs.Waits.{may_wait};
-ghost use Rattle.fx_command.specs.Left.{IsIdle};
+ghost use Rattle.fx_command.specs.Left.{IsUnasked};
 ghost use Rattle.fx_command.specs.StatusOf.{status_of};
 
 use fx_audit_command::audit;
@@ -36,7 +36,7 @@ fn still<H: Host, S: Sink, D: Disk>(
         (S.view out.old) (S.view out.new) (D.view disk.old) (D.view disk.new) (status_of result) }
     ensures fit { AsksInside (asked_job job.now) (H.view host.old) (H.view host.new) }
     ensures disk { LeavesDisk (asked_job job.now) (D.view disk.old) (D.view disk.new) }
-    ensures kept { KeepsOrder (asked_job job.now) (H.view host.old)
+    ensures kept { KeepsWrittenOrder (asked_job job.now) (H.view host.old)
         (S.view out.old) (S.view out.new) (D.view disk.old) (D.view disk.new) }
 {
     match job {
@@ -66,7 +66,7 @@ fn run_job<R: Threads + Wait + Sync, H: Host, S: Sink, G: Gate + Sync, D: Disk>(
         (S.view out.old) (S.view out.new) (D.view disk.old) (D.view disk.new) (status_of result) }
     ensures fit { AsksInside (asked_job job.now) (H.view host.old) (H.view host.new) }
     ensures disk { LeavesDisk (asked_job job.now) (D.view disk.old) (D.view disk.new) }
-    ensures kept { KeepsOrder (asked_job job.now) (H.view host.old)
+    ensures kept { KeepsWrittenOrder (asked_job job.now) (H.view host.old)
         (S.view out.old) (S.view out.new) (D.view disk.old) (D.view disk.new) }
 {
     match job {
@@ -109,7 +109,7 @@ pub fn top<R: Threads + Wait + Sync, H: Host, S: Sink, G: Gate + Sync, D: Disk>(
     ensures refused { job_of words.now ≡ None
         → (result ≡ Status.Usage) ⊎ (result ≡ Status.NoMemory) }
     ensures idle { job_of words.now ≡ None
-        → IsIdle (H.view host.old) (H.view host.new) (S.view out.old) (S.view out.new) }
+        → IsUnasked (H.view host.old) (H.view host.new) (S.view out.old) (S.view out.new) }
     ensures unasked { job_of words.now ≡ None → D.view disk.new ≡ D.view disk.old }
 
     // Every other status has its cause, and says what is left at the host, the sink and the disk.
@@ -128,7 +128,7 @@ pub fn top<R: Threads + Wait + Sync, H: Host, S: Sink, G: Gate + Sync, D: Disk>(
 
     // A command that keeps a journal leaves on the disk the order of what it wrote, however it ends.
     ensures kept { IfSome (job_of words.now) (λ j.
-        KeepsOrder j (H.view host.old) (S.view out.old) (S.view out.new)
+        KeepsWrittenOrder j (H.view host.old) (S.view out.old) (S.view out.new)
         (D.view disk.old) (D.view disk.new)) }
 
     // With fit inputs and no fault of the host, the sink or the disk all is done, or memory runs out.

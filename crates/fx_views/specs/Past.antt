@@ -32,8 +32,8 @@ abbrev pub VouchesAtOn : LogView → LogView → ℕ → ℕ → ReadList → Re
 VouchesAtOn old new position later reads more = (start : LogView) → VouchesAt start old position reads → VouchesAt start new later more
 
 -- so it is at the start
-pub begins_to_vouch : (v : LogView) (position : ℕ) (reads : ReadList) → AreAt v position reads → VouchesAt v v position reads
-begins_to_vouch v position reads stand = record {
+pub begins_to_vouch_at : (v : LogView) (position : ℕ) (reads : ReadList) → AreAt v position reads → VouchesAt v v position reads
+begins_to_vouch_at v position reads stand = record {
   seen = record { number = refl; base = refl; mine = refl; seen = begins_same v.seen v.seen refl };
   stand = stand;
 }

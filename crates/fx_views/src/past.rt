@@ -3,7 +3,7 @@ ghost use Rattle.std.specs.Prelude.{◌≡◌, ◌≤◌, [], true, false, Some,
 ghost use Rattle.fx_turn.specs.Seats.{view};
 ghost use Rattle.fx_shared.specs.Passes.{HasSeenMore};
 ghost use Rattle.fx_shared.specs.Shared.{IsPassOf, IsReadyPass};
-ghost use Rattle.fx_views.specs.Past.{AreAt, AreAt-prop, WasAt, VouchesAt, begins_to_vouch};
+ghost use Rattle.fx_views.specs.Past.{AreAt, AreAt-prop, WasAt, VouchesAt, begins_to_vouch_at};
 
 use fx_base::NoMemory;
 use fx_outside::{Gate, Moment};
@@ -147,6 +147,6 @@ impl<R: Wait, G: Gate> Reader for Past<'_, R, G> {
       refl,
       refl,
       refl,
-      begins_to_vouch (view reader.pass) reader.position reader.reads reader.true_reads,
+      begins_to_vouch_at (view reader.pass) reader.position reader.reads reader.true_reads,
     ) };
 }

@@ -27,5 +27,5 @@ pub record IsViewsRunFrom (base : BaseTree) (views : List (List CommandTree)) (n
   pub last : nodes ≡ state base order (length order)
 
 -- the last filestore of a run
-abbrev pub last_of : Answer → Nodes
-last_of a = last_state a.log
+abbrev pub last_of_views : Answer → Nodes
+last_of_views a = last_state a.log

@@ -7,14 +7,14 @@ use Rattle.fx_outside.specs.Tree.{Tree}
 use Rattle.fx_words.specs.Job.{ViewsJob}
 use Rattle.fx_command.specs.declared.status.Status.{Status}
 use Rattle.fx_command.specs.Out.{IsProperOut, LetsOut}
-use Rattle.fx_command.specs.Table.{Making, Command, CommandRow, leaving}
+use Rattle.fx_command.specs.Table.{Making, Command, CommandRow, leaving_folder}
 use Rattle.fx_inputs.specs.Readings.{views_reading}
 use Rattle.fx_inputs.specs.Views.{HasViewsInputs, LetsViews}
 use Rattle.fx_views_command.specs.Outcome.{IsViewsOutcome}
 
 -- `views` leaves the last filestore of a whole run at OUT, and prints its output
 abbrev pub views_making : ViewsJob → Making (Nodes × List ℕ)
-views_making j = leaving j.out (λ t nodes output. IsViewsOutcome t j nodes output)
+views_making j = leaving_folder j.out (λ t nodes output. IsViewsOutcome t j nodes output)
 
 -- before that it reads texts and a folder
 abbrev pub views_command : ViewsJob → Command (Nodes × List ℕ)

@@ -3,7 +3,7 @@ ghost use Rattle.std.specs.Prelude.{IfSome};
 ghost use Rattle.fx_words.specs.JobOf.{asked_views, IsViewsJob};
 ghost use Rattle.fx_command.specs.StatusOf.{status_of};
 ghost use Rattle.fx_command.specs.Table.{IsComing};
-ghost use Rattle.fx_views_command.specs.Answers.{last_of};
+ghost use Rattle.fx_views_command.specs.Answers.{last_of_views};
 ghost use Rattle.fx_views_command.specs.Rows.{views_making, ViewsRow, ViewsAsk};
 
 use crate::viewing::{Answer, run_bases};
@@ -25,7 +25,7 @@ fn leave<H: Host, S: Sink>(
     out: &mut S,
 ) -> Result<(), Status>
     requires { IfSome (H.view host.old).told (λ t. IsComing (views_making (asked_views job.now)) t
-        (last_of answer.now, answer.now.output) there) }
+        (last_of_views answer.now, answer.now.output) there) }
     ensures row { ViewsRow (asked_views job.now) (H.view host.old) (H.view host.new)
         (S.view out.old) (S.view out.new) (status_of result) }
     ensures fit { ViewsAsk (asked_views job.now) (H.view host.old) (H.view host.new) }

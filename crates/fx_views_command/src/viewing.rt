@@ -6,7 +6,7 @@ ghost use Rattle.fx_spec.specs.Plans.{script_of};
 ghost use Rattle.fx_report.specs.Entries as whole;
 ghost use Rattle.fx_report.specs.Views as lines;
 ghost use Rattle.fx_inputs.specs.Views.{IsBeside};
-ghost use Rattle.fx_views_command.specs.Answers.{last_of, IsViewsRunFrom};
+ghost use Rattle.fx_views_command.specs.Answers.{last_of_views, IsViewsRunFrom};
 
 use fx_base::NoMemory;
 use fx_board::Board;
@@ -61,7 +61,7 @@ pub(crate) fn run_bases<R: Threads + Wait + Sync, G: Gate + Sync>(
     requires few { length bases.scripts.value.plan < shell_limit }
     requires beside { IsBeside (base_tree bases.scripts.value) (base_tree bases.views.value) }
     ensures { IfOk result (λ a. IsViewsRunFrom (base_tree bases.scripts.value)
-        (script_of bases.views.value.plan 0) (last_of a) a.output) }
+        (script_of bases.views.value.plan 0) (last_of_views a) a.output) }
 {
     let Bases { scripts, views } = bases;
     let (log, retries, viewed) = run_views(rt, alloc, scripts, views, gate)?;

@@ -24,7 +24,7 @@ use Rattle.fx_view.specs.ReadList.{ReadList}
 use Rattle.fx_view.specs.Reads.{known_of, read_at, IsRead, Agrees}
 use Rattle.fx_view.proofs.Growing.{read_known}
 use Rattle.fx_view.proofs.Rules.{walked_known, found_answer, found_asked}
-use Rattle.fx_watch.specs.Validity.{IsWalked, IsFound, DiffersAt, Spares, has_value, root_rule, consulted}
+use Rattle.fx_watch.specs.Validity.{IsWalked, IsFound, DiffersAt, Spares, has_value, root_rule, root_consulted}
 use Rattle.fx_watch.specs.WatchView.{WatchView, AnswersFor}
 
 abbrev Path : Type 0
@@ -80,9 +80,9 @@ all_of : {X : Type 0} (P : X → Type 0) (xs : List X) → ((x : X) → Contains
 all_of P [] each = All-nil P
 all_of P (x ∷ xs) each = All-cons P x xs (each x (All-head (Contains (x ∷ xs)) x xs (All-contains_itself (x ∷ xs)))) (all_of P xs (λ y h. each y (Contains-append_right (x ∷ []) xs y h)))
 
-pub spared : (root : SpecTree) (S T : Store) (changed : List Path) → DiffersAt changed S T → Spares root S changed → SameOn (consulted root S) S T
+pub spared : (root : SpecTree) (S T : Store) (changed : List Path) → DiffersAt changed S T → Spares root S changed → SameOn (root_consulted root S) S T
 spared root S T changed differs spares =
-    same_on (consulted root S) S T (all_of (λ p. S p ≡ T p) (consulted root S) (λ p has. differs p (λ in_changed. All-contains (λ path. Contains (consulted root S) path → ⊥) changed p spares in_changed has)))
+    same_on (root_consulted root S) S T (all_of (λ p. S p ≡ T p) (root_consulted root S) (λ p has. differs p (λ in_changed. All-contains (λ path. Contains (root_consulted root S) path → ⊥) changed p spares in_changed has)))
 
 pub spared_found : (root : SpecTree) (old new : Store) (changed : List Path) (reads : ReadList) (valid : Bool) → DiffersAt changed old new → Spares root old changed → IsFound root old reads valid → IsFound root new reads valid
 spared_found root old new changed reads valid differs spares seen =
@@ -94,21 +94,21 @@ spared_found root old new changed reads valid differs spares seen =
 
 -- what the code tests: that none of the changed paths was read
 pub unread_spares : (root : SpecTree) (S : Store) (reads : ReadList) (valid : Bool) (changed : List Path) → IsFound root S reads valid → list_all (λ path. not (is_some (read_at reads path))) changed ≡ true → Spares root S changed
-unread_spares root S reads valid [] seen e = All-nil (λ path. Contains (consulted root S) path → ⊥)
+unread_spares root S reads valid [] seen e = All-nil (λ path. Contains (root_consulted root S) path → ⊥)
 unread_spares root S reads valid (p ∷ ps) seen e = at (is_some (read_at reads p)) refl e (unread_spares root S reads valid ps seen)
   where
     at : (b : Bool) → is_some (read_at reads p) ≡ b → list_all (λ path. not (is_some (read_at reads path))) (p ∷ ps) ≡ true → (list_all (λ path. not (is_some (read_at reads path))) ps ≡ true → Spares root S ps) → Spares root S (p ∷ ps)
     at true is all rest = absurd (false≢true (subst (λ b. (not b && list_all (λ path. not (is_some (read_at reads path))) ps) ≡ true) is all))
     at false is all rest =
-        All-cons (λ path. Contains (consulted root S) path → ⊥) p ps (λ has. let read : is_some (read_at reads p) ≡ true = (seen.asked_is p).1 has in false≢true (sym is ∙ read))
+        All-cons (λ path. Contains (root_consulted root S) path → ⊥) p ps (λ has. let read : is_some (read_at reads p) ≡ true = (seen.asked_is p).1 has in false≢true (sym is ∙ read))
         (rest (subst (λ b. (not b && list_all (λ path. not (is_some (read_at reads path))) ps) ≡ true) is all))
 
 pub spares_unread : (root : SpecTree) (S : Store) (reads : ReadList) (valid : Bool) (changed : List Path) → IsFound root S reads valid → Spares root S changed → list_all (λ path. not (is_some (read_at reads path))) changed ≡ true
 spares_unread root S reads valid [] seen spares = refl
-spares_unread root S reads valid (p ∷ ps) seen spares = at (is_some (read_at reads p)) refl (spares_unread root S reads valid ps seen (All-tail (λ path. Contains (consulted root S) path → ⊥) p ps spares))
+spares_unread root S reads valid (p ∷ ps) seen spares = at (is_some (read_at reads p)) refl (spares_unread root S reads valid ps seen (All-tail (λ path. Contains (root_consulted root S) path → ⊥) p ps spares))
   where
     at : (b : Bool) → is_some (read_at reads p) ≡ b → list_all (λ path. not (is_some (read_at reads path))) ps ≡ true → list_all (λ path. not (is_some (read_at reads path))) (p ∷ ps) ≡ true
-    at true is rest = absurd (All-head (λ path. Contains (consulted root S) path → ⊥) p ps spares ((seen.asked_is p).0 is))
+    at true is rest = absurd (All-head (λ path. Contains (root_consulted root S) path → ⊥) p ps spares ((seen.asked_is p).0 is))
     at false is rest = subst (λ b. (not b && list_all (λ path. not (is_some (read_at reads path))) ps) ≡ true) (sym is) rest
 
 -- whether there is a value stays

@@ -16,8 +16,8 @@ abbrev pub has_value : SpecTree → Store → Bool
 has_value root S = is_some (answer S (root_rule root))
 
 -- the paths that are consulted for it
-abbrev pub consulted : SpecTree → Store → List (List (List ℕ))
-consulted root S = asked S (root_rule root)
+abbrev pub root_consulted : SpecTree → Store → List (List (List ℕ))
+root_consulted root S = asked S (root_rule root)
 
 -- how many expressions are evaluated for it
 abbrev pub evaluations : SpecTree → Store → ℕ
@@ -25,7 +25,7 @@ evaluations root S = ticks S (root_rule root)
 
 -- none of the paths is consulted
 abbrev pub Spares : SpecTree → Store → List (List (List ℕ)) → Type 0
-Spares root S changed = All (λ path. Contains (consulted root S) path → ⊥) changed
+Spares root S changed = All (λ path. Contains (root_consulted root S) path → ⊥) changed
 
 -- two filestores differ at no other than these paths
 abbrev pub DiffersAt : List (List (List ℕ)) → Store → Store → Type 0

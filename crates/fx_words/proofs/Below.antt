@@ -9,7 +9,7 @@ use Rattle.std.proofs.lemmas.List.Elements.{All-cons, All-nil}
 use Rattle.fx_words.specs.declared.job.RunJob as code
 use Rattle.fx_words.specs.declared.job.RunMode as code_mode
 use Rattle.fx_words.specs.declared.job.RunMode.TheVariants as by
-use Rattle.fx_words.specs.Job.{numbered, shell_named, shells_named, schedule_of, is_comma, shells_of, shells_in}
+use Rattle.fx_words.specs.Job.{numbered, shell_named, shells_named, schedule_of, is_comma, shells_of, scheduled_shells}
 use Rattle.fx_words.specs.JobOf.{asked, IsJob, IsModeOf, scripts_in, mode_of}
 
 numbered_below : (k n : ℕ) (text : List ℕ) (j : ℕ) → numbered k n text ≡ Some j → j < k + n
@@ -49,7 +49,7 @@ read_below : (count : ℕ) (text : List ℕ) (o : Option (List ℕ)) → schedul
 read_below count text None e some = cc
 read_below count text (Some ks) e some = schedule_below count text ks e
 
-mode_below : (count : ℕ) (mode : code_mode.RunMode) → IsModeOf count mode → Below count (shells_in (mode_of count mode))
+mode_below : (count : ℕ) (mode : code_mode.RunMode) → IsModeOf count mode → Below count (scheduled_shells (mode_of count mode))
 mode_below count by.Plain is = All-nil (λ k. k < count)
 mode_below count (by.Scheduled text) is = read_below count text.now (schedule_of count text.now) refl is
 mode_below count (by.Watched text) is = read_below count text.now (schedule_of count text.now) refl is

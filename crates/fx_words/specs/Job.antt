@@ -134,15 +134,15 @@ show_job (spec ∷ folder ∷ []) = Some (record { spec = spec; folder = folder 
 show_job _ = None
 
 -- the number whose decimal text this is, if it is below 2 ^ 32
-abbrev pub number_of : List ℕ → Option ℕ
-number_of text =
+abbrev pub decimal_number : List ℕ → Option ℕ
+decimal_number text =
     let number = digits_value 10 text in
     cond (bytes_eq (decimal number) text && nat_lt number (2 ^ 32)) (Some number) None
 
 abbrev pub gen_job : List (List ℕ) → Option GenJob
 gen_job (number ∷ out ∷ []) =
     let job : ℕ → GenJob = λ n. record { number = n; out = out } in
-    option_map job (number_of number)
+    option_map job (decimal_number number)
 gen_job _ = None
 
 -- what a command asks for with these arguments
@@ -168,13 +168,13 @@ job_of [] = None
 job_of (word ∷ arguments) = cond (are_plain arguments) (named_job word arguments) None
 
 -- the place of a script's word among the words
-abbrev pub place_of : Inputs → ℕ → ℕ
-place_of inputs i = inputs.first + i
+abbrev pub script_place : Inputs → ℕ → ℕ
+script_place inputs i = inputs.first + i
 
-abbrev pub shells_in : Mode → List ℕ
-shells_in Plain = []
-shells_in (Scheduled shells) = shells
-shells_in (Watched shells) = shells
+abbrev pub scheduled_shells : Mode → List ℕ
+scheduled_shells Plain = []
+scheduled_shells (Scheduled shells) = shells
+scheduled_shells (Watched shells) = shells
 
 abbrev pub shells_of : RunJob → List ℕ
-shells_of job = shells_in job.mode
+shells_of job = scheduled_shells job.mode

@@ -9,15 +9,15 @@ use Rattle.fx_words.specs.declared.form.CommandName.{CommandName}
 use Rattle.fx_words.specs.Forms.{commands, least_of, most_of, word_of}
 
 -- an argument of so many texts
-abbrev pub texts : ℕ → ℕ → Rule
-texts least most = record (new_rule (codes "argument")) {
+abbrev pub text_arguments : ℕ → ℕ → Rule
+text_arguments least most = record (new_rule (codes "argument")) {
   required = true;
   range = Some (record { start_inclusive = least; end_inclusive = most });
 }
 
 -- a command with its arguments
 abbrev pub command : CommandName → Shape
-command name = record (new_shape (word_of name)) { rules = texts (least_of name) (most_of name) ∷ [] }
+command name = record (new_shape (word_of name)) { rules = text_arguments (least_of name) (most_of name) ∷ [] }
 
 -- no help, no version; a command must be named
 abbrev pub without_commands : App

@@ -34,7 +34,7 @@ pub(crate) fn shell_named(count: u32, text: &[u8]) -> Option<u32>
 
 /// The number whose decimal text this is, if a `u32` holds it.
 pub(crate) fn number_of(text: &str) -> Option<u32>
-    ensures { result ≡ job.number_of text.now }
+    ensures { result ≡ job.decimal_number text.now }
 {
     let number: u32 = text.parse().ok()?;
     let mut buffer = Buffer::new();

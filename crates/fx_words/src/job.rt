@@ -357,7 +357,7 @@ impl<'a> Inputs<'a> {
     pub fn place(&self, i: u32) -> u32
         requires inputs { AreInputs self.now }
         requires script { i < length (asked_inputs self.now).scripts }
-        ensures { result ≡ job.place_of (asked_inputs self.now) i }
+        ensures { result ≡ job.script_place (asked_inputs self.now) i }
     {
         self.first as u32 + i
     }

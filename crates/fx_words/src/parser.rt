@@ -11,7 +11,7 @@ use std::alloc::{AllocError, Global};
 
 /// The arguments of a command.
 fn arguments<'a>(alloc: Global, name: CommandName) -> Arg<'a>
-    ensures rule { rule_of result ≡ parser.texts (least_of name) (most_of name) }
+    ensures rule { rule_of result ≡ parser.text_arguments (least_of name) (most_of name) }
     ensures local { result.global ≡ false }
 {
     Arg::new(alloc, "argument")

@@ -8,5 +8,5 @@ use Rattle.fx_shared.specs.Passes.{LogView}
 use Rattle.fx_shared.proofs.Truths.{count_own}
 
 -- a shell's pass counts the entries of its shell among those that it has seen
-pub counted : (v : LogView) (shell : ℕ) → own (λ (turn : Turn). turn.0) v.number v.seen ≡ v.mine → v.number ≡ Some shell → next_number v.seen shell ≡ v.mine
-counted v shell mine number = sym (count_own shell v.seen) ∙ (ap (λ n. own (λ (turn : Turn). turn.0) n v.seen) (sym number) ∙ mine)
+pub counts_own_entries : (v : LogView) (shell : ℕ) → own (λ (turn : Turn). turn.0) v.number v.seen ≡ v.mine → v.number ≡ Some shell → next_number v.seen shell ≡ v.mine
+counts_own_entries v shell mine number = sym (count_own shell v.seen) ∙ (ap (λ n. own (λ (turn : Turn). turn.0) n v.seen) (sym number) ∙ mine)

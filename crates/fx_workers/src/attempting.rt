@@ -3,7 +3,7 @@ ghost use Rattle.std.specs.Prelude.{◌≡◌, ◌<◌, ◌^◌, ◌+◌, Some, 
 ghost use Rattle.fx_spec.specs.Bases.{base_tree};
 ghost use Rattle.fx_spec.specs.Plans.{count_of};
 ghost use Rattle.fx_machine.specs.Explained.{IsExplained};
-ghost use Rattle.fx_shared.specs.Passes.{HasBase, HasLegal, AreTrueFor};
+ghost use Rattle.fx_shared.specs.Passes.{HasBase, HasLegal, AreTrueInLog};
 ghost use Rattle.fx_workers.specs.Working.{HasTried, ComesTo, IsWorker, HasGone, HasWorkedOff};
 
 use crate::desk::Desk;
@@ -55,7 +55,7 @@ fn settle<D: Desk>(alloc: Global, desk: &mut D, attempt: Attempt) -> Result<Outc
     requires whose { (D.view desk.old).number ≡ Some attempt.shell }
     requires next { attempt.txn ≡ (D.view desk.old).mine }
     requires explained { HasBase (D.view desk.old) (λ base. IsExplained base attempt) }
-    requires reads { AreTrueFor (D.view desk.old) attempt.reads }
+    requires reads { AreTrueInLog (D.view desk.old) attempt.reads }
     ensures table { D.table desk.new ≡ D.table desk.old }
     ensures legal { HasLegal (D.view desk.new) }
     ensures outcome { IfOk result (ComesTo (D.view desk.old) (D.view desk.new) attempt) }

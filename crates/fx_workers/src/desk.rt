@@ -4,9 +4,9 @@ ghost use Rattle.atomic_table.specs.Seated.{TableId};
 ghost use Rattle.fx_machine.specs.Explained.{IsExplained};
 ghost use Rattle.fx_machine.specs.Machine.{next_number};
 ghost use Rattle.fx_turn.specs.Seats.{view};
-ghost use Rattle.fx_shared.specs.Passes.{LogView, HasBase, HasLegal, AreTrueFor, HasSeenMore, IsLook, HasSettled, IsRefused};
+ghost use Rattle.fx_shared.specs.Passes.{LogView, HasBase, HasLegal, AreTrueInLog, HasSeenMore, IsLook, HasSettled, IsHandedBack};
 ghost use Rattle.fx_shared.specs.Shared.{IsPassOf, IsReadyPass};
-ghost use Rattle.fx_workers.specs.Desks.{counted};
+ghost use Rattle.fx_workers.specs.Desks.{counts_own_entries};
 
 use crate::crew::Crew;
 use fx_base::NoMemory;
@@ -47,12 +47,12 @@ pub trait Desk: Drop {
         requires whose { (view self.old).number ≡ Some attempt.shell }
         requires next { attempt.txn ≡ (view self.old).mine }
         requires explained { HasBase (view self.old) (λ base. IsExplained base attempt) }
-        requires reads { AreTrueFor (view self.old) attempt.reads }
+        requires reads { AreTrueInLog (view self.old) attempt.reads }
         ensures table { table self.new ≡ table self.old }
         ensures legal { HasLegal (view self.new) }
         ensures settled { IfOk result (HasSettled (view self.old) (view self.new) attempt) }
         ensures seen { OnErr result (HasSeenMore (view self.old) (view self.new)) }
-        ensures refused { IfErr result (IsRefused (view self.new) attempt) };
+        ensures refused { IfErr result (IsHandedBack (view self.new) attempt) };
 
     ghost counted: { (desk : Self) → (shell : ℕ) → (view desk).number ≡ Some shell
         → next_number (view desk).seen shell ≡ (view desk).mine };
@@ -121,13 +121,13 @@ impl<'a, R: Wait, G: Gate, T: Logged> LogDesk<'a, R, G, T> {
         requires whose { (view self.old.pass).number ≡ Some attempt.shell }
         requires next { attempt.txn ≡ (view self.old.pass).mine }
         requires explained { HasBase (view self.old.pass) (λ base. IsExplained base attempt) }
-        requires reads { AreTrueFor (view self.old.pass) attempt.reads }
+        requires reads { AreTrueInLog (view self.old.pass) attempt.reads }
         ensures table { self.new.pass.place.table_id ≡ self.old.pass.place.table_id }
         ensures legal { HasLegal (view self.new.pass) }
         ensures settled { IfOk result
             (HasSettled (view self.old.pass) (view self.new.pass) attempt) }
         ensures seen { OnErr result (HasSeenMore (view self.old.pass) (view self.new.pass)) }
-        ensures refused { IfErr result (IsRefused (view self.new.pass) attempt) }
+        ensures refused { IfErr result (IsHandedBack (view self.new.pass) attempt) }
     {
         let txn = attempt.txn;
         self.gate
@@ -160,7 +160,7 @@ impl<R: Wait, G: Gate> Desk for LogDesk<'_, R, G, Board> {
         self.settle_by_turn(alloc, attempt)
     }
 
-    ghost counted = { λ desk shell. counted (view desk.pass) shell desk.pass.mine_is };
+    ghost counted = { λ desk shell. counts_own_entries (view desk.pass) shell desk.pass.mine_is };
 }
 
 impl<R: Wait, G: Gate> Desk for LogDesk<'_, R, G, Versioned> {
@@ -185,5 +185,5 @@ impl<R: Wait, G: Gate> Desk for LogDesk<'_, R, G, Versioned> {
         self.settle_by_turn(alloc, attempt)
     }
 
-    ghost counted = { λ desk shell. counted (view desk.pass) shell desk.pass.mine_is };
+    ghost counted = { λ desk shell. counts_own_entries (view desk.pass) shell desk.pass.mine_is };
 }

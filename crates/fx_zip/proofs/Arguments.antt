@@ -26,7 +26,7 @@ use Rattle.fx_session.specs.Answering.{answered}
 use Rattle.fx_session.specs.Halts.{split}
 use Rattle.fx_walk.specs.Arguments.{with_each, HaveShapes}
 use Rattle.fx_walk.specs.Scopes.{HasScope}
-use Rattle.fx_zip.specs.Telling.{told, costs, Says, AreWellShaped, names_answer, tried}
+use Rattle.fx_zip.specs.Telling.{told, costs, Says, AreWellShaped, names_answer, arguments_tried}
 
 -- ---- an answer behind some evaluations
 
@@ -62,11 +62,11 @@ module _ (params : List (List ℕ × ShapeTree)) where
 pub said_all : (o : Answered (Unit {0})) (u : Unit {0}) → ◌≡◌ {A = Option (Answered (Unit {0}))} (Some o) (Some (Ok u)) → o ≡ Ok tt
 said_all o u h = let is : o ≡ Ok u = cc in is
 
-pub with_all : {A : Type 0} (answer : Answered A) (o : Result (List Tree) ExprFault) → tried o ≡ Ok tt → with_arguments answer o ≡ answer
+pub with_all : {A : Type 0} (answer : Answered A) (o : Result (List Tree) ExprFault) → arguments_tried o ≡ Ok tt → with_arguments answer o ≡ answer
 with_all answer (Ok vs) h = refl
 with_all answer (Err f) h = absurd (cc)
 
-pub with_fault : {A : Type 0} (answer : Answered A) (o : Result (List Tree) ExprFault) (f : Refusal) → tried o ≡ Err f → with_arguments answer o ≡ Err f
+pub with_fault : {A : Type 0} (answer : Answered A) (o : Result (List Tree) ExprFault) (f : Refusal) → arguments_tried o ≡ Err f → with_arguments answer o ≡ Err f
 with_fault answer (Ok vs) f h = absurd (cc)
 with_fault answer (Err g) f h = let same : ◌≡◌ {A = Refusal} (Refusal.Expr g) f = cc in ap (λ f. Err f) same
 
@@ -98,17 +98,17 @@ evaluated_ok : (o : Outcome) (v : Tree) → evaluated o ≡ Ok v → o ≡ Ok v
 evaluated_ok (Ok w) v h = let same : w ≡ v = cc in ap (λ v. Ok v) same
 evaluated_ok (Err f) v h = absurd (cc)
 
-try_more : (o : Outcome) (v : Tree) (rest : Result (List Tree) ExprFault) → o ≡ Ok v → tried (then_others o rest) ≡ tried rest
-try_more o v (Ok vs) h = ap (λ o. tried (then_others o (Ok vs))) h
-try_more o v (Err f) h = ap (λ o. tried (then_others o (Err f))) h
+try_more : (o : Outcome) (v : Tree) (rest : Result (List Tree) ExprFault) → o ≡ Ok v → arguments_tried (then_others o rest) ≡ arguments_tried rest
+try_more o v (Ok vs) h = ap (λ o. arguments_tried (then_others o (Ok vs))) h
+try_more o v (Err f) h = ap (λ o. arguments_tried (then_others o (Err f))) h
 
-try_fault : (o : Outcome) (f : Refusal) (rest : Result (List Tree) ExprFault) → evaluated o ≡ Err f → tried (then_others o rest) ≡ Err f
+try_fault : (o : Outcome) (f : Refusal) (rest : Result (List Tree) ExprFault) → evaluated o ≡ Err f → arguments_tried (then_others o rest) ≡ Err f
 try_fault (Ok v) f rest h = absurd (cc)
 try_fault (Err g) f rest h = let same : ◌≡◌ {A = Refusal} (Refusal.Expr g) f = cc in ap (λ f. Err f) same
 
 -- the arguments before one have values, and were evaluated
 pub record IsTrying (env : Bindings) (args : List ExprTree) (first steps i : ℕ) : Type 0 where
-  pub rest : tried (arguments env args) ≡ tried (arguments env (drop i args))
+  pub rest : arguments_tried (arguments env args) ≡ arguments_tried (arguments env (drop i args))
   pub count : first + argument_evals env args ≡ steps + argument_evals env (drop i args)
 
 pub try_first : (env : Bindings) (args : List ExprTree) (first : ℕ) → IsTrying env args first first 0
@@ -118,8 +118,8 @@ module _ (env : Bindings) (args : List ExprTree) (first steps i : ℕ) (at : IsT
   none_left : length args ≡ i → drop i args ≡ []
   none_left all = ap (λ n. drop n args) (sym all) ∙ drop-length args
 
-  pub all_tried : length args ≡ i → tried (arguments env args) ≡ Ok tt
-  all_tried all = at.rest ∙ ap (λ es. tried (arguments env es)) (none_left all)
+  pub all_tried : length args ≡ i → arguments_tried (arguments env args) ≡ Ok tt
+  all_tried all = at.rest ∙ ap (λ es. arguments_tried (arguments env es)) (none_left all)
 
   pub few_in_all : length args ≡ i → steps ≤ first + argument_evals env args
   few_in_all all = omega (arith, at.count)
@@ -140,16 +140,16 @@ module _ (env : Bindings) (args : List ExprTree) (first steps i : ℕ) (at : IsT
         let is : eval_of env e ≡ Ok v = evaluated_ok (eval_of env e) v given in
         let one_less = count_ahead ∙ ap (λ o. 1 + unless_fault o (argument_evals env (drop (i + 1) args))) is in
         record {
-          rest = at.rest ∙ ap (λ es. tried (arguments env es)) ahead ∙ try_more (eval_of env e) v (arguments env (drop (i + 1) args)) is;
+          rest = at.rest ∙ ap (λ es. arguments_tried (arguments env es)) ahead ∙ try_more (eval_of env e) v (arguments env (drop (i + 1) args)) is;
           count = omega (arith, at.count, one_less, one);
         }
 
-    pub try_fails : (h : Halt) (r : Result (Unit {0}) Halt) → IsErrAnd r (λ d. d ≡ h) → Says (answered tree_of) (Some (evaluated (eval_of env e))) (split {X = Value} (Err h)) → Says (answered (λ (u : Unit {0}). u)) (Some (tried (arguments env args))) (split r)
-    try_fails h r none says = subst (λ (r : Result (Unit {0}) Halt). Says (answered (λ (u : Unit {0}). u)) (Some (tried (arguments env args))) (split r)) (sym (err_of r h none)) (at_fault h says)
+    pub try_fails : (h : Halt) (r : Result (Unit {0}) Halt) → IsErrAnd r (λ d. d ≡ h) → Says (answered tree_of) (Some (evaluated (eval_of env e))) (split {X = Value} (Err h)) → Says (answered (λ (u : Unit {0}). u)) (Some (arguments_tried (arguments env args))) (split r)
+    try_fails h r none says = subst (λ (r : Result (Unit {0}) Halt). Says (answered (λ (u : Unit {0}). u)) (Some (arguments_tried (arguments env args))) (split r)) (sym (err_of r h none)) (at_fault h says)
       where
-        at_fault : (h : Halt) → Says (answered tree_of) (Some (evaluated (eval_of env e))) (split {X = Value} (Err h)) → Says (answered (λ (u : Unit {0}). u)) (Some (tried (arguments env args))) (split {X = Unit {0}} (Err h))
+        at_fault : (h : Halt) → Says (answered tree_of) (Some (evaluated (eval_of env e))) (split {X = Value} (Err h)) → Says (answered (λ (u : Unit {0}). u)) (Some (arguments_tried (arguments env args))) (split {X = Unit {0}} (Err h))
         at_fault (halt.Refused f) says =
             let fault : evaluated (eval_of env e) ≡ Err f = cc in
-            ap Some (at.rest ∙ ap (λ es. tried (arguments env es)) ahead ∙ try_fault (eval_of env e) f (arguments env (drop (i + 1) args)) fault)
+            ap Some (at.rest ∙ ap (λ es. arguments_tried (arguments env es)) ahead ∙ try_fault (eval_of env e) f (arguments env (drop (i + 1) args)) fault)
         at_fault (halt.Stopped stop.NoMemory) says = tt
         at_fault (halt.Stopped (stop.Needs p)) says = absurd says

@@ -23,7 +23,7 @@ use Rattle.fx_session.specs.declared.halt.Halt.TheVariants as halt
 use Rattle.fx_zip.specs.declared.frame.Frame.{Frame}
 use Rattle.fx_zip.specs.declared.frame.Spot.{Spot}
 use Rattle.fx_zip.specs.Calls.{Finds, Moves, Turns, Turned, next_at, prev_at, next_evals, sideways_evals, beside}
-use Rattle.fx_zip.specs.Fresh.{AreFound, Stands, last_step, is_first, is_second, left, StandsIn}
+use Rattle.fx_zip.specs.Fresh.{AreFound, Stands, last_step, is_first, is_second_step, left, StandsIn}
 use Rattle.fx_zip.specs.Parts.{IsNoPair, child, part}
 use Rattle.fx_zip.specs.Spots.{bound_value, BindsValue, FirstLeads, entered}
 use Rattle.fx_zip.specs.Trees.{ZipTree, path_of, here}
@@ -142,7 +142,7 @@ next_other root (Down ∷ a) at e = refl
 next_other root (Body ∷ a) at e = refl
 next_other root (Elem t ∷ a) at e = refl
 
-prev_other : (root : SpecTree) (a : Address) (at : PlaceTree) → is_second (last_step a) ≡ false → beside root greatest_below a ≡ prev_at root a at
+prev_other : (root : SpecTree) (a : Address) (at : PlaceTree) → is_second_step (last_step a) ≡ false → beside root greatest_below a ≡ prev_at root a at
 prev_other root [] at e = refl
 prev_other root (First ∷ a) at e = refl
 prev_other root (Second ∷ a) at e = absurd (cc)
@@ -160,7 +160,7 @@ first_of_true (Some Down) e = absurd (cc)
 first_of_true (Some Body) e = absurd (cc)
 first_of_true (Some (Elem t)) e = absurd (cc)
 
-pub second_of_true : (o : Option Step) → is_second o ≡ true → o ≡ Some Second
+pub second_of_true : (o : Option Step) → is_second_step o ≡ true → o ≡ Some Second
 second_of_true None e = absurd (cc)
 second_of_true (Some First) e = absurd (cc)
 second_of_true (Some Second) e = refl
@@ -192,5 +192,5 @@ module _ {R L : Type 0} (m : Meaning R) (old mid : ZipTree) (was then : Session 
   pub moved_first : Turned (m.reads then.reader.now) (own_at then.own) mid new (prev_at mid.root mid.address (here mid)) r → Moves m old new was then (go_prev old.root old.address) (λ S. 0) r
   moved_first = moved_prev
 
-  pub moved_smaller : is_second (last_step mid.address) ≡ false → Turned (m.reads then.reader.now) (own_at then.own) mid new (beside mid.root greatest_below mid.address) r → Moves m old new was then (go_prev old.root old.address) (λ S. 0) r
+  pub moved_smaller : is_second_step (last_step mid.address) ≡ false → Turned (m.reads then.reader.now) (own_at then.own) mid new (beside mid.root greatest_below mid.address) r → Moves m old new was then (go_prev old.root old.address) (λ S. 0) r
   moved_smaller other turned = moved_prev (subst (λ rule. Turned (m.reads then.reader.now) (own_at then.own) mid new rule r) (prev_other mid.root mid.address (here mid) other) turned)

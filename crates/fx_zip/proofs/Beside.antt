@@ -29,9 +29,9 @@ use Rattle.fx_zip.specs.declared.frame.Frame.{Frame}
 use Rattle.fx_zip.specs.declared.frame.Bound.TheVariants as bounds
 use Rattle.fx_zip.specs.declared.frame.Spot.{Spot}
 use Rattle.fx_zip.specs.Calls.{OnRefused, SaysFound, Turns, Turned, Besides, beside, next_at, prev_at, next_evals}
-use Rattle.fx_zip.specs.Fresh.{around, around_last, HasSet, IsHeld, AreFound, Stands, IsNoElement, last_step, last_set, last_caller, left, StandsIn}
+use Rattle.fx_zip.specs.Fresh.{around, around_last, HasSet, IsHeldSet, AreFound, Stands, IsNoElement, last_step, last_set, last_caller, left, StandsIn}
 use Rattle.fx_zip.specs.Parts.{child, part, comp_name}
-use Rattle.fx_zip.specs.Spots.{bound_value, Leads, LeadsFrom, Chooses, BindsValue, entered}
+use Rattle.fx_zip.specs.Spots.{bound_value, LeadsToSpot, LeadsFrom, Chooses, BindsValue, entered}
 use Rattle.fx_zip.specs.Steps.{step_tree}
 use Rattle.fx_zip.specs.Telling.{Says, set_answer}
 use Rattle.fx_zip.specs.Trees.{ZipTree, path_of, here}
@@ -63,7 +63,7 @@ module _ (known own : Known) (p : List (List ℕ)) (env : Bindings) (t : List �
   held_set : (o : Outcome) (kept : Option (List (List ℕ))) → kept ≡ Some set → HasSet kept o → set_answer o ≡ Ok set
   held_set o kept e h = subst (λ k. HasSet k o) e h
 
-  pub element_in : (s : SpecTree) (kept : Option (List (List ℕ))) → follow known own (lead (Elem t) p env s) ≡ Found (Some at) → kept ≡ Some set → IsHeld (Elem t) kept env s → InSet s
+  pub element_in : (s : SpecTree) (kept : Option (List (List ℕ))) → follow known own (lead (Elem t) p env s) ≡ Found (Some at) → kept ≡ Some set → IsHeldSet (Elem t) kept env s → InSet s
   element_in SpecTree.file kept found e h = absurd (cc)
   element_in SpecTree.dir kept found e h = absurd (cc)
   element_in SpecTree.link kept found e h = absurd (cc)
@@ -76,7 +76,7 @@ module _ (known own : Known) (p : List (List ℕ)) (env : Bindings) (t : List �
   element_in (SpecTree.last args params) kept found e h = absurd (cc)
 
   -- without a kept set there is no such place
-  pub no_element : (s : SpecTree) → follow known own (lead (Elem t) p env s) ≡ Found (Some at) → IsHeld (Elem t) None env s → ⊥
+  pub no_element : (s : SpecTree) → follow known own (lead (Elem t) p env s) ≡ Found (Some at) → IsHeldSet (Elem t) None env s → ⊥
   no_element SpecTree.file found h = absurd (cc)
   no_element SpecTree.dir found h = absurd (cc)
   no_element SpecTree.link found h = absurd (cc)
@@ -109,12 +109,12 @@ module _ (known : ReadList) (own : Known) (root : SpecTree) (f : List ℕ → Li
       ∙ ap (λ o. Found o) (chosen_is a (f t) (eval_of env e) set answer)
 
   leads_other : (a : Address) (fs : List Frame) (env : Bindings) (t : List ℕ) (set : List (List ℕ)) → InSet (known_of known) own (path_of fs) env t (placed (path_of fs) env (part root a)) set (part root a) → ((u : List ℕ) → f t set ≡ Some u → has_text u set ≡ true)
-      → (choice : Option (List ℕ)) → choice ≡ f t set → (r : Result Entry Halt) → MatchOption (comp_name (part root a)) (Unit {0}) (λ x. Chooses (path_of fs) x set choice r) → IfOk r (λ e. Leads known own (step_tree e.step) (path_of fs) env (part root a) e.spot)
+      → (choice : Option (List ℕ)) → choice ≡ f t set → (r : Result Entry Halt) → MatchOption (comp_name (part root a)) (Unit {0}) (λ x. Chooses (path_of fs) x set choice r) → IfOk r (λ e. LeadsToSpot known own (step_tree e.step) (path_of fs) env (part root a) e.spot)
   leads_other a fs env t set inside member choice same (Err h) chooses = tt
   leads_other a fs env t set (in_set d x e form answer) member choice same (Ok entry) chooses =
       at choice same (subst (λ s. MatchOption (comp_name s) (Unit {0}) (λ x. Chooses (path_of fs) x set choice (Ok entry))) form chooses)
     where
-      at : (choice : Option (List ℕ)) → choice ≡ f t set → Chooses (path_of fs) x set choice (Ok entry) → Leads known own (step_tree entry.step) (path_of fs) env (part root a) entry.spot
+      at : (choice : Option (List ℕ)) → choice ≡ f t set → Chooses (path_of fs) x set choice (Ok entry) → LeadsToSpot known own (step_tree entry.step) (path_of fs) env (part root a) entry.spot
       at None same c = let says : ◌≡◌ {A = Option (Answered Address)} (Some (Err Refusal.NoElement)) (Some (Ok (step_tree entry.step ∷ []))) = c.says [] in absurd (cc)
       at (Some u) same c =
           let is = c.spot u refl in
@@ -132,7 +132,7 @@ module _ (known : ReadList) (own : Known) (root : SpecTree) (f : List ℕ → Li
   -- over the address and the frames of a zipper
   module _ (t : List ℕ) (set : List (List ℕ)) (member : (u : List ℕ) → f t set ≡ Some u → has_text u set ≡ true) (choice : Option (List ℕ)) (same : choice ≡ f t set) (r : Result Entry Halt) where
     abbrev Both : Address → List Frame → Bindings → Type 0
-    Both a fs env = SaysFound (known_of known) own (answered (λ e. step_tree e.step ∷ drop 1 a)) (beside root f a) (split r) × IfOk r (λ e. Leads known own (step_tree e.step) (path_of (drop 1 fs)) (around_last a (last_caller fs) env) (part root (drop 1 a)) e.spot)
+    Both a fs env = SaysFound (known_of known) own (answered (λ e. step_tree e.step ∷ drop 1 a)) (beside root f a) (split r) × IfOk r (λ e. LeadsToSpot known own (step_tree e.step) (path_of (drop 1 fs)) (around_last a (last_caller fs) env) (part root (drop 1 a)) e.spot)
 
     both_of : (step : Step) (a : Address) (g : Frame) (fs : List Frame) (env : Bindings) → step ≡ Elem t → g.set ≡ Some set → AreFound known own root (step ∷ a) (g ∷ fs) env → MatchOption (comp_name (part root a)) (Unit {0}) (λ x. Chooses (path_of fs) x set choice r) → Both (step ∷ a) (g ∷ fs) env
     both_of step a g fs env is held found chooses =
@@ -152,7 +152,7 @@ module _ (known : ReadList) (own : Known) (root : SpecTree) (f : List ℕ → Li
     both (step ∷ a) (g ∷ fs) env e held found chooses = both_of step a g fs env (cc) held found chooses
 
 -- what leads from the zipper without its last step
-leads_left : (known : ReadList) (own : Known) (z : ZipTree) → Stands known own z → (r : Result Entry Halt) → IfOk r (λ e. Leads known own (step_tree e.step) (path_of (drop 1 z.frames)) (around_last z.address (last_caller z.frames) z.env) (part z.root (drop 1 z.address)) e.spot) → IfOk r (λ e. LeadsFrom known own (left z) e)
+leads_left : (known : ReadList) (own : Known) (z : ZipTree) → Stands known own z → (r : Result Entry Halt) → IfOk r (λ e. LeadsToSpot known own (step_tree e.step) (path_of (drop 1 z.frames)) (around_last z.address (last_caller z.frames) z.env) (part z.root (drop 1 z.address)) e.spot) → IfOk r (λ e. LeadsFrom known own (left z) e)
 leads_left known own z stands r h =
     subst (λ (w : ZipTree). IfOk r (λ e. LeadsFrom known own w e)) (sym (left_settled z (stands_settled known own z stands))) h
 
@@ -172,7 +172,7 @@ module _ (known : ReadList) (own : Known) (z : ZipTree) (stands : Stands known o
   none_beside f (Body ∷ a) fs env none found = refl
   none_beside f (Elem t ∷ a) [] env none found = absurd found
   none_beside f (Elem t ∷ a) (g ∷ fs) env none found =
-      absurd (no_element (known_of (take g.reads known)) own (path_of fs) (around (Elem t) g.caller env) t (placed g.path env (child (Elem t) (part z.root a))) [] (part z.root a) found.0 (subst (λ s. IsHeld (Elem t) s (around (Elem t) g.caller env) (part z.root a)) (none t refl) found.1))
+      absurd (no_element (known_of (take g.reads known)) own (path_of fs) (around (Elem t) g.caller env) t (placed g.path env (child (Elem t) (part z.root a))) [] (part z.root a) found.0 (subst (λ s. IsHeldSet (Elem t) s (around (Elem t) g.caller env) (part z.root a)) (none t refl) found.1))
 
   pub none_besides : (f : List ℕ → List (List ℕ) → Option (List ℕ)) → IsNoElement z → Besides known own z (beside z.root f z.address) (Err (halt.Refused Refusal.NoStep))
   none_besides f none = record { says = ap (follow (known_of known) own) (none_beside f z.address z.frames z.env none stands.found); leads = tt }
@@ -227,12 +227,12 @@ second_pair known own p env at (SpecTree.call args params s) found = absurd (cc)
 second_pair known own p env at (SpecTree.last args params) found = absurd (cc)
 
 module _ (known : ReadList) (own : Known) (root : SpecTree) (entry : Entry) (step : step_tree entry.step ≡ First) (bound : entry.spot.bound ≡ bounds.Nothing) where
-  first_from : (p : List (List ℕ)) (env : Bindings) (s : SpecTree) → entry.spot.path ≡ p → IsPair s → Leads known own (step_tree entry.step) p env s entry.spot
+  first_from : (p : List (List ℕ)) (env : Bindings) (s : SpecTree) → entry.spot.path ≡ p → IsPair s → LeadsToSpot known own (step_tree entry.step) p env s entry.spot
   first_from p env s path (is_pair x a b form) =
       leads_step known own First (step_tree entry.step) p env s entry.spot step (leads_at known own First p env s 0 0 entry.spot (first_leads p env s x a b 0 entry.spot form path bound))
 
   first_both : (a : Address) (fs : List Frame) (env : Bindings) (at : PlaceTree) → last_step a ≡ Some Second → entry.spot.path ≡ path_of (drop 1 fs) → AreFound known own root a fs env
-      → (follow (known_of known) own (prev_at root a at) ≡ Found (Ok (step_tree entry.step ∷ drop 1 a))) × Leads known own (step_tree entry.step) (path_of (drop 1 fs)) (around_last a (last_caller fs) env) (part root (drop 1 a)) entry.spot
+      → (follow (known_of known) own (prev_at root a at) ≡ Found (Ok (step_tree entry.step ∷ drop 1 a))) × LeadsToSpot known own (step_tree entry.step) (path_of (drop 1 fs)) (around_last a (last_caller fs) env) (part root (drop 1 a)) entry.spot
   first_both [] fs env at e path found = absurd (cc)
   first_both (First ∷ a) fs env at e path found = absurd (cc)
   first_both (Inside ∷ a) fs env at e path found = absurd (cc)
@@ -256,9 +256,9 @@ first_besides known own z stands entry step bound second path =
 pub by_all : {A : Type 0} (reads : ReadList) (spot : Spot) (own : Known) (rule : Ask A) (a : A) → spot.reads ≡ length reads → follow (known_of reads) own rule ≡ Found a → follow (known_of (take spot.reads reads)) own rule ≡ Found a
 by_all reads spot own rule a all h = ap (λ rs. follow (known_of rs) own rule) (ap (λ k. take k reads) all ∙ all_taken reads) ∙ h
 
-pub leads_second : (known : ReadList) (own : Known) (p : List (List ℕ)) (env : Bindings) (s : SpecTree) (x : List ℕ) (a b : SpecTree) (spot : Spot) → s ≡ SpecTree.pair x a b → follow (known_of (take spot.reads known)) own (value p env a) ≡ Found (Some (bound_value spot)) → BindsValue p x (bound_value spot) spot → Leads known own Second p env s spot
+pub leads_second : (known : ReadList) (own : Known) (p : List (List ℕ)) (env : Bindings) (s : SpecTree) (x : List ℕ) (a b : SpecTree) (spot : Spot) → s ≡ SpecTree.pair x a b → follow (known_of (take spot.reads known)) own (value p env a) ≡ Found (Some (bound_value spot)) → BindsValue p x (bound_value spot) spot → LeadsToSpot known own Second p env s spot
 leads_second known own p env s x a b spot form found binds =
-    subst (λ s. Leads known own Second p env s spot) (sym form)
+    subst (λ s. LeadsToSpot known own Second p env s spot) (sym form)
     (record {
       found =
           follow-bind (known_of (take spot.reads known)) own (value p env a) (λ v. Answer (option_map (λ v. placed p (bind env x v) b) v)) (Some (bound_value spot)) found
@@ -314,13 +314,13 @@ module _ {R L : Type 0} (m : Meaning R) (z : ZipTree) (was now : Session R L) (s
   stands_now : (o : Result (Option Spot) Stop) → First_ o → StandsIn m now z
   stands_now o h = stands_on h z stands
 
-  second_from : (spot : Spot) → First_ (Ok (Some spot)) → (BindsValue (path_of (drop 1 z.frames)) x (bound_value spot) spot × (spot.reads ≡ length (m.reads now.reader.now))) → Leads (m.reads now.reader.now) (own_at now.own) Second (path_of (left z).frames) (left z).env (part (left z).root (left z).address) spot
+  second_from : (spot : Spot) → First_ (Ok (Some spot)) → (BindsValue (path_of (drop 1 z.frames)) x (bound_value spot) spot × (spot.reads ≡ length (m.reads now.reader.now))) → LeadsToSpot (m.reads now.reader.now) (own_at now.own) Second (path_of (left z).frames) (left z).env (part (left z).root (left z).address) spot
   second_from spot h binds =
-      let leads : Leads (m.reads now.reader.now) (own_at now.own) Second (path_of (drop 1 z.frames)) z.env (part z.root (drop 1 z.address)) spot =
+      let leads : LeadsToSpot (m.reads now.reader.now) (own_at now.own) Second (path_of (drop 1 z.frames)) z.env (part z.root (drop 1 z.address)) spot =
       leads_second (m.reads now.reader.now) (own_at now.own) (path_of (drop 1 z.frames)) z.env (part z.root (drop 1 z.address)) x a b spot form (by_all (m.reads now.reader.now) spot (own_at now.own) (value (path_of (drop 1 z.frames)) z.env a) (Some (bound_value spot)) binds.1 (found_by h)) binds.0 in
-      let around : Leads (m.reads now.reader.now) (own_at now.own) Second (path_of (drop 1 z.frames)) (around_last z.address (last_caller z.frames) z.env) (part z.root (drop 1 z.address)) spot =
-      subst (λ e. Leads (m.reads now.reader.now) (own_at now.own) Second (path_of (drop 1 z.frames)) e (part z.root (drop 1 z.address)) spot) (sym at_first.1) leads in
-      subst (λ (w : ZipTree). Leads (m.reads now.reader.now) (own_at now.own) Second (path_of w.frames) w.env (part w.root w.address) spot)
+      let around : LeadsToSpot (m.reads now.reader.now) (own_at now.own) Second (path_of (drop 1 z.frames)) (around_last z.address (last_caller z.frames) z.env) (part z.root (drop 1 z.address)) spot =
+      subst (λ e. LeadsToSpot (m.reads now.reader.now) (own_at now.own) Second (path_of (drop 1 z.frames)) e (part z.root (drop 1 z.address)) spot) (sym at_first.1) leads in
+      subst (λ (w : ZipTree). LeadsToSpot (m.reads now.reader.now) (own_at now.own) Second (path_of w.frames) w.env (part w.root w.address) spot)
       (sym (left_settled z (stands_settled (m.reads was.reader.now) (own_at was.own) z stands))) around
 
   pub second_turns : (spot : Spot) (new : ZipTree) → First_ (Ok (Some spot)) → (BindsValue (path_of (drop 1 z.frames)) x (bound_value spot) spot × (spot.reads ≡ length (m.reads now.reader.now))) → new ≡ entered (left z) Second spot → ToSecond new (Ok tt)

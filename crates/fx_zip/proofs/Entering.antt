@@ -22,9 +22,9 @@ use Rattle.fx_session.specs.Halts.{split}
 use Rattle.fx_zip.specs.declared.frame.Entry.{Entry}
 use Rattle.fx_zip.specs.declared.frame.Bound.TheVariants as bounds
 use Rattle.fx_zip.specs.declared.frame.Spot.{Spot}
-use Rattle.fx_zip.specs.Spots.{Leads, LeadsAt, Enters, EntersAt, Chooses, BindsNames}
+use Rattle.fx_zip.specs.Spots.{LeadsToSpot, LeadsAt, Enters, EntersAt, Chooses, BindsNames}
 use Rattle.fx_zip.specs.Steps.{step_tree}
-use Rattle.fx_zip.specs.Telling.{told, costs, Says, set_answer, names_answer, tried}
+use Rattle.fx_zip.specs.Telling.{told, costs, Says, set_answer, names_answer, arguments_tried}
 use Rattle.fx_walk.specs.Arguments.{inner_names}
 use Rattle.fx_zip.proofs.Arguments.{told_behind, costs_behind, with_names, without_names, with_all, with_fault}
 use Rattle.fx_zip.proofs.Leads.{first_leads, element_leads, body_leads}
@@ -34,12 +34,12 @@ use Rattle.fx_zip.proofs.Telling.{told_found}
 use Rattle.fx_session.specs.declared.session.Session.{Session}
 use Rattle.fx_session.proofs.Calls.{refused}
 
-pub leads_at : (known : ReadList) (own : Known) (step : Step) (p : List (List ℕ)) (env : Bindings) (s : SpecTree) (was now : ℕ) (spot : Spot) → LeadsAt step p env s was now (Ok (Some spot)) → Leads known own step p env s spot
+pub leads_at : (known : ReadList) (own : Known) (step : Step) (p : List (List ℕ)) (env : Bindings) (s : SpecTree) (was now : ℕ) (spot : Spot) → LeadsAt step p env s was now (Ok (Some spot)) → LeadsToSpot known own step p env s spot
 leads_at known own step p env s was now spot h = record { found = told_found (known_of (take spot.reads known)) own (lead step p env s) _ h.tells.says; fits = h.spot }
 
 -- the step of an entry, spelled in another way
-pub leads_step : (known : ReadList) (own : Known) (step other : Step) (p : List (List ℕ)) (env : Bindings) (s : SpecTree) (spot : Spot) → other ≡ step → Leads known own step p env s spot → Leads known own other p env s spot
-leads_step known own step other p env s spot e h = subst (λ t. Leads known own t p env s spot) (sym e) h
+pub leads_step : (known : ReadList) (own : Known) (step other : Step) (p : List (List ℕ)) (env : Bindings) (s : SpecTree) (spot : Spot) → other ≡ step → LeadsToSpot known own step p env s spot → LeadsToSpot known own other p env s spot
+leads_step known own step other p env s spot e h = subst (λ t. LeadsToSpot known own t p env s spot) (sym e) h
 
 module _ (p : List (List ℕ)) (env : Bindings) (rule : Address → Ask (Answered Address)) (s : SpecTree) where
   abbrev At : ℕ → ℕ → Result Entry Halt → Type 0
@@ -94,7 +94,7 @@ module _ (p : List (List ℕ)) (env : Bindings) (rule : Address → Ask (Answere
       said choice same a r h =
           subst (λ (o : Option (Answered Address)). Says (answered (λ (e : Entry). step_tree e.step ∷ a)) o r) (ap (λ c. Some (element a c)) same ∙ ap Some (sym (chosen_is (eval_of env e) a set answer)) ∙ sym (ap told (is a))) h
 
-      led : (choice : Option (List ℕ)) → choice ≡ f set → (r : Result Entry Halt) → Chooses p x set choice r → (known : ReadList) (own : Known) → IfOk r (λ e. Leads known own (step_tree e.step) p env s e.spot)
+      led : (choice : Option (List ℕ)) → choice ≡ f set → (r : Result Entry Halt) → Chooses p x set choice r → (known : ReadList) (own : Known) → IfOk r (λ e. LeadsToSpot known own (step_tree e.step) p env s e.spot)
       led choice same (Err h) chooses known own = tt
       led None same (Ok entry) chooses known own = let says : ◌≡◌ {A = Option (Answered Address)} (Some (Err Refusal.NoElement)) (Some (Ok (step_tree entry.step ∷ []))) = chooses.says [] in absurd (cc)
       led (Some t) same (Ok entry) chooses known own =
@@ -182,7 +182,7 @@ module _ (p : List (List ℕ)) (env : Bindings) (args : List ExprTree) (params :
   abbrev too_unfolded : Answered Address
   too_unfolded = with_arguments (Err Refusal.TooUnfolded) (arguments env args)
 
-  pub last_refused : tried (arguments env args) ≡ Ok tt → EntersLast (Err (halt.Refused Refusal.TooUnfolded))
+  pub last_refused : arguments_tried (arguments env args) ≡ Ok tt → EntersLast (Err (halt.Refused Refusal.TooUnfolded))
   last_refused all = record {
     tells = λ a. record {
       says = told_behind (argument_evals env args) too_unfolded ∙ ap Some (with_all (Err Refusal.TooUnfolded) (arguments env args) all);
@@ -191,13 +191,13 @@ module _ (p : List (List ℕ)) (env : Bindings) (args : List ExprTree) (params :
     leads = λ known own. tt;
   }
 
-  pub last_err : (h : Halt) (r : Result Entry Halt) → IsErrAnd r (λ d. d ≡ h) → Says (answered (λ (u : Unit {0}). u)) (Some (tried (arguments env args))) (split (Err h)) → EntersLast r
+  pub last_err : (h : Halt) (r : Result Entry Halt) → IsErrAnd r (λ d. d ≡ h) → Says (answered (λ (u : Unit {0}). u)) (Some (arguments_tried (arguments env args))) (split (Err h)) → EntersLast r
   last_err h r none says = subst EntersLast (sym (err_of r h none)) (at h says)
     where
-      at : (h : Halt) → Says (answered (λ (u : Unit {0}). u)) (Some (tried (arguments env args))) (split (Err h)) → EntersLast (Err h)
+      at : (h : Halt) → Says (answered (λ (u : Unit {0}). u)) (Some (arguments_tried (arguments env args))) (split (Err h)) → EntersLast (Err h)
       at (halt.Refused f) says = record {
         tells = λ a. record {
-          says = told_behind (argument_evals env args) too_unfolded ∙ (let fault : tried (arguments env args) ≡ Err f = cc in ap Some (with_fault (Err Refusal.TooUnfolded) (arguments env args) f fault));
+          says = told_behind (argument_evals env args) too_unfolded ∙ (let fault : arguments_tried (arguments env args) ≡ Err f = cc in ap Some (with_fault (Err Refusal.TooUnfolded) (arguments env args) f fault));
           most = behind_most too_unfolded;
         };
         leads = λ known own. tt;

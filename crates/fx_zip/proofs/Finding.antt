@@ -10,7 +10,7 @@ use Rattle.fx_view.specs.Meaning.{Meaning}
 use Rattle.fx_base.proofs.Errors.{err_of}
 use Rattle.fx_session.specs.declared.halt.Halt.{Halt}
 use Rattle.fx_session.specs.declared.halt.Halt.TheVariants as halt
-use Rattle.fx_zip.specs.Calls.{IsSettling, SettlesTo, Settles, Finds, Evaluates, place_needed}
+use Rattle.fx_zip.specs.Calls.{IsSettling, SettlesTo, SettlesFrames, Finds, Evaluates, place_needed}
 use Rattle.fx_zip.specs.Parts.{part}
 use Rattle.fx_zip.specs.Trees.{ZipTree, is_settled, path_of, here}
 use Rattle.fx_zip.proofs.Settled.{PlaceOr, settling_first, settling_fresh}
@@ -79,7 +79,7 @@ module _ {R L : Type 0} (m : Meaning R) (first : ZipTree) (start : Session R L) 
 
     module _ (unsettled : is_settled z ≡ false) (new : ZipTree) (then : Session R L) where
       -- fewer steps have no frame
-      pub finding_smaller : (more : Bool) → more ≡ true → Settles m z new now then (Ok more) → length new.address - length new.frames < length z.address - length z.frames
+      pub finding_smaller : (more : Bool) → more ≡ true → SettlesFrames m z new now then (Ok more) → length new.address - length new.frames < length z.address - length z.frames
       finding_smaller more goes h =
           let few = few_frames (m.reads now.reader.now) (own_at now.own) z (settling_fresh m start now z f.settling) unsettled in
           let same = ap length h.address in
@@ -99,7 +99,7 @@ module _ {R L : Type 0} (m : Meaning R) (first : ZipTree) (start : Session R L) 
           let is = ap (λ b. cond b 0 (ticks (changed (own_at start.own) S) (place first.root first.address))) (first_unsettled (is_settled first) refl) in
           omega (arith, most, is)
 
-      pub finding_next : (more : Bool) → more ≡ true → Settles m z new now then (Ok more) → Finding m first start then new
+      pub finding_next : (more : Bool) → more ≡ true → SettlesFrames m z new now then (Ok more) → Finding m first start then new
       finding_next more goes h = record {
         settling = subst (λ b. SettlesTo m start then z new (Ok b)) goes (h.to start f.settling);
         root = h.root ∙ f.root;
@@ -107,7 +107,7 @@ module _ {R L : Type 0} (m : Meaning R) (first : ZipTree) (start : Session R L) 
         quiet = λ e. absurd (not_first e);
       }
 
-      pub found_none : (more : Bool) → more ≡ false → Settles m z new now then (Ok more) → Finds m first new start then (Err (halt.Refused Refusal.NoPlace))
+      pub found_none : (more : Bool) → more ≡ false → SettlesFrames m z new now then (Ok more) → Finds m first new start then (Err (halt.Refused Refusal.NoPlace))
       found_none more ends h =
           let none = subst (λ b. SettlesTo m start then z new (Ok b)) ends (h.to start f.settling) in
           let at_first = place_first then (Ok None) none.0 in
@@ -122,7 +122,7 @@ module _ {R L : Type 0} (m : Meaning R) (first : ZipTree) (start : Session R L) 
             most = stop_most (Ok None) at_first;
           }
 
-      stopped : (why : Stop) → Settles m z new now then (Err why) → Finds m first new start then (Err (halt.Stopped why))
+      stopped : (why : Stop) → SettlesFrames m z new now then (Err why) → Finds m first new start then (Err (halt.Stopped why))
       stopped why h =
           let at_first = place_first then (Err why) (h.to start f.settling) in
           record {
@@ -136,7 +136,7 @@ module _ {R L : Type 0} (m : Meaning R) (first : ZipTree) (start : Session R L) 
             most = stop_most (Err why) at_first;
           }
 
-      pub found_stop : (why : Stop) (r : Result (Unit {0}) Halt) → IsErrAnd r (λ h. h ≡ halt.Stopped why) → Settles m z new now then (Err why) → Finds m first new start then r
+      pub found_stop : (why : Stop) (r : Result (Unit {0}) Halt) → IsErrAnd r (λ h. h ≡ halt.Stopped why) → SettlesFrames m z new now then (Err why) → Finds m first new start then r
       found_stop why r is h = subst (Finds m first new start then) (sym (err_of r (halt.Stopped why) is)) (stopped why h)
 
 -- ---- the place, handed out

@@ -26,7 +26,7 @@ use Rattle.fx_zip.specs.declared.frame.Bound.TheVariants as bounds
 use Rattle.fx_zip.specs.declared.frame.Spot.{Spot}
 use Rattle.fx_zip.specs.Fresh.{around, HasSet}
 use Rattle.fx_zip.specs.Parts.{IsNoPair, IsNoComp, IsNoFocus, IsNoCall}
-use Rattle.fx_zip.specs.Spots.{grown, name_in, caller_in, spot_place, IsSpot, LeadsAt, BindsText, BindsNames}
+use Rattle.fx_zip.specs.Spots.{grown, bound_name, caller_in, spot_place, IsSpot, LeadsAt, BindsText, BindsNames}
 use Rattle.fx_zip.specs.Telling.{costs, Says, set_answer, names_answer, given}
 use Rattle.fx_walk.specs.Arguments.{inner_names}
 use Rattle.fx_zip.proofs.Arguments.{told_behind, costs_behind, body_place, body_no_place}
@@ -52,7 +52,7 @@ module _ {A X : Type 0} (view : X → A) (o : Answered A) where
 
 -- ---- names bound and given back
 
-pub grown_is : (env : Bindings) (b : Bound) (e : List ℕ × Tree) → name_in b ≡ Some e → grown env b ≡ env ++ e ∷ []
+pub grown_is : (env : Bindings) (b : Bound) (e : List ℕ × Tree) → bound_name b ≡ Some e → grown env b ≡ env ++ e ∷ []
 grown_is env bounds.Nothing e h = absurd (cc)
 grown_is env (bounds.Name x v) e h = let same : ◌≡◌ {A = List ℕ × Tree} (x, tree_of v) e = cc in ap (λ e. env ++ e ∷ []) same
 grown_is env (bounds.Names names) e h = absurd (cc)
@@ -63,7 +63,7 @@ front_last env e =
     let n : length (env ++ e ∷ []) - 1 ≡ length env = omega (arith, long) in
     ap (λ n. take n (env ++ e ∷ [])) n ∙ take-append_seam env (e ∷ [])
 
-front_grown : (env : Bindings) (b : Bound) (e : List ℕ × Tree) → name_in b ≡ Some e → take (length (grown env b) - 1) (grown env b) ≡ env
+front_grown : (env : Bindings) (b : Bound) (e : List ℕ × Tree) → bound_name b ≡ Some e → take (length (grown env b) - 1) (grown env b) ≡ env
 front_grown env b e h = ap (λ g. take (length g - 1) g) (grown_is env b e h) ∙ front_last env e
 
 module _ (p : List (List ℕ)) (env : Bindings) where

@@ -16,7 +16,7 @@ use Rattle.fx_base.proofs.Errors.{err_of}
 use Rattle.fx_walk.specs.Scopes.{HasScope}
 use Rattle.fx_zip.specs.declared.frame.Spot.{Spot}
 use Rattle.fx_zip.specs.declared.step.Step.{Step}
-use Rattle.fx_zip.specs.Calls.{IsSettling, Settles}
+use Rattle.fx_zip.specs.Calls.{IsSettling, SettlesFrames}
 use Rattle.fx_zip.specs.Fresh.{IsFresh}
 use Rattle.fx_zip.specs.Parts.{part}
 use Rattle.fx_zip.specs.Spots.{LeadsTo, LeadsNext, kept_too}
@@ -91,32 +91,32 @@ module _ {R L : Type 0} (m : Meaning R) (old : ZipTree) (was now : Session R L) 
         let same = same_ends at.ahead (h.ahead ++ h.step ∷ []) at.kept h.kept (sym at.whole ∙ h.whole ∙ sym (append_assoc h.ahead (h.step ∷ []) h.kept)) (sym kept ∙ sym h.long) in
         record { front = h.ahead; is = same.0; behind = same.1 }
 
-  pub settles_true : (mid new : ZipTree) (o : Option Spot) (spot : Spot) → o ≡ Some spot → LeadsNext m old was now (Ok o) → mid ≡ old → new ≡ kept_too mid spot → Settles m old new was now (Ok true)
-  settles_true mid new o spot some leads same is = let h : LeadsNext m old was now (Ok (Some spot)) = subst (λ o. LeadsNext m old was now (Ok o)) some leads in subst (λ z. Settles m old z was now (Ok true)) (sym (is ∙ ap (λ z. kept_too z spot) same)) (record {
+  pub settles_true : (mid new : ZipTree) (o : Option Spot) (spot : Spot) → o ≡ Some spot → LeadsNext m old was now (Ok o) → mid ≡ old → new ≡ kept_too mid spot → SettlesFrames m old new was now (Ok true)
+  settles_true mid new o spot some leads same is = let h : LeadsNext m old was now (Ok (Some spot)) = subst (λ o. LeadsNext m old was now (Ok o)) some leads in subst (λ z. SettlesFrames m old z was now (Ok true)) (sym (is ∙ ap (λ z. kept_too z spot) same)) (record {
     root = refl;
     address = refl;
     to = λ start at. settles_on m start was now old at h.step h.kept (is_next (Ok (Some spot)) h start at) spot h.leads;
     more = λ _. omega arith;
   })
 
-  pub settles_false : (mid : ZipTree) (o : Option Spot) → o ≡ None → LeadsNext m old was now (Ok o) → mid ≡ old → Settles m old mid was now (Ok false)
-  settles_false mid o none leads same = let h : LeadsNext m old was now (Ok None) = subst (λ (o : Option Spot). LeadsNext m old was now (Ok o)) none leads in subst (λ z. Settles m old z was now (Ok false)) (sym same) (record {
+  pub settles_false : (mid : ZipTree) (o : Option Spot) → o ≡ None → LeadsNext m old was now (Ok o) → mid ≡ old → SettlesFrames m old mid was now (Ok false)
+  settles_false mid o none leads same = let h : LeadsNext m old was now (Ok None) = subst (λ (o : Option Spot). LeadsNext m old was now (Ok o)) none leads in subst (λ z. SettlesFrames m old z was now (Ok false)) (sym same) (record {
     root = refl;
     address = refl;
     to = λ start at. settles_none m start was now old at h.step h.kept (is_next (Ok None) h start at) h.leads;
     more = λ e. absurd (cc);
   })
 
-  pub settles_err : (mid : ZipTree) (why : Stop) (r : Result Bool Stop) → LeadsNext m old was now (Err why) → mid ≡ old → IsErrAnd r (λ d. d ≡ why) → Settles m old mid was now r
-  settles_err mid why r h same is = subst (λ z. Settles m old z was now r) (sym same) (subst (Settles m old old was now) (sym (err_of r why is)) (record {
+  pub settles_err : (mid : ZipTree) (why : Stop) (r : Result Bool Stop) → LeadsNext m old was now (Err why) → mid ≡ old → IsErrAnd r (λ d. d ≡ why) → SettlesFrames m old mid was now r
+  settles_err mid why r h same is = subst (λ z. SettlesFrames m old z was now r) (sym same) (subst (SettlesFrames m old old was now) (sym (err_of r why is)) (record {
     root = refl;
     address = refl;
     to = λ start at. settles_stop m start was now old at h.step h.kept (is_next (Err why) h start at) why h.leads;
     more = tt;
   }))
 
-  pub settles_refused : (mid new : ZipTree) (o : Option Spot) (r : Result Bool Stop) → LeadsNext m old was now (Ok o) → mid ≡ old → new.root ≡ mid.root → new.address ≡ mid.address → IsErrAnd r (λ d. d ≡ stop.NoMemory) → Settles m old new was now r
-  settles_refused mid new o r h same root address is = subst (Settles m old new was now) (sym (err_of r stop.NoMemory is)) (record {
+  pub settles_refused : (mid new : ZipTree) (o : Option Spot) (r : Result Bool Stop) → LeadsNext m old was now (Ok o) → mid ≡ old → new.root ≡ mid.root → new.address ≡ mid.address → IsErrAnd r (λ d. d ≡ stop.NoMemory) → SettlesFrames m old new was now r
+  settles_refused mid new o r h same root address is = subst (SettlesFrames m old new was now) (sym (err_of r stop.NoMemory is)) (record {
     root = root ∙ ap (λ (z : ZipTree). z.root) same;
     address = address ∙ ap (λ (z : ZipTree). z.address) same;
     to = λ start at. settles_memory m start was now old at h.step h.kept (is_next (Ok o) h start at) o h.leads;

@@ -28,8 +28,8 @@ use Rattle.fx_zip.specs.declared.frame.Frame.{Frame}
 use Rattle.fx_zip.specs.declared.frame.Spot.{Spot}
 use Rattle.fx_zip.specs.Calls.{SaysFound}
 use Rattle.fx_zip.specs.Fresh.{AreFound, IsFresh, Stands, IsFreshIn, StandsIn}
-use Rattle.fx_zip.specs.Spots.{Leads, LeadsTo, LeadsAt, Enters, EntersAt}
-use Rattle.fx_zip.specs.Telling.{OnlyCounts, told, Says, Tells}
+use Rattle.fx_zip.specs.Spots.{LeadsToSpot, LeadsTo, LeadsAt, Enters, EntersAt}
+use Rattle.fx_zip.specs.Telling.{OnlyCounts, told, Says, TellsWithin}
 use Rattle.fx_zip.specs.Trees.{ZipTree}
 use Rattle.fx_zip.proofs.Standing.{found_grows, stands_grows, fresh_grows}
 use Rattle.fx_zip.proofs.Telling.{told_found, costs_ticks}
@@ -106,7 +106,7 @@ module _ {R L A X : Type 0} (m : Meaning R) (view : X → A) (s : Session R L) (
   goes_told (Err stop.NoMemory) h = Went-none m s.reader.now (walked known (own_at s.own) rule)
   goes_told (Err (stop.Needs p)) h = absurd h
 
-  tells_at : (n : ℕ) (r : Result X Stop) → Tells view s.steps n rule r → Implements m view s (counted n s) rule r
+  tells_at : (n : ℕ) (r : Result X Stop) → TellsWithin view s.steps n rule r → Implements m view s (counted n s) rule r
   tells_at n r h = record {
     own = refl;
     follows = record { goes = goes_told r h.says; most = λ S agrees. let cost = costs_ticks (changed (own_at s.own) S) rule in omega (arith, cost, h.most) };
@@ -119,13 +119,13 @@ module _ {R L A X : Type 0} (m : Meaning R) (view : X → A) (s : Session R L) (
   goes_found (Err (stop.Needs p)) h = absurd h
 
 module _ {R L A X : Type 0} {m : Meaning R} {view : X → A} {old : Session R L} {rule : Ask A} (r : Result X Stop) where
-  pub tells_on : {new : Session R L} → OnlyCounts old new → Tells view old.steps new.steps rule r → Implements m view old new rule r
+  pub tells_on : {new : Session R L} → OnlyCounts old new → TellsWithin view old.steps new.steps rule r → Implements m view old new rule r
   tells_on {new = new} still h = subst (λ (s : Session R L). Implements m view old s rule r) (sym still) (tells_at m view old rule new.steps r h)
 
   pub found_on : SaysFound (known_of (m.reads old.reader.now)) (own_at old.own) view rule r → Implements m view old old rule r
   found_on h = record { own = refl; follows = record { goes = goes_found m view old rule r h; most = λ S agrees. omega arith }; lent = refl }
 
-spots_of : (reads : ReadList) (own : Known) (step : Step) (p : List (List ℕ)) (env : Bindings) (spec : SpecTree) (was now : ℕ) (r : Result (Option Spot) Stop) → LeadsAt step p env spec was now r → IfOk r (λ o. IfSome o (Leads reads own step p env spec))
+spots_of : (reads : ReadList) (own : Known) (step : Step) (p : List (List ℕ)) (env : Bindings) (spec : SpecTree) (was now : ℕ) (r : Result (Option Spot) Stop) → LeadsAt step p env spec was now r → IfOk r (λ o. IfSome o (LeadsToSpot reads own step p env spec))
 spots_of reads own step p env spec was now (Err why) h = tt
 spots_of reads own step p env spec was now (Ok None) h = tt
 spots_of reads own step p env spec was now (Ok (Some spot)) h = record { found = told_found (known_of (take spot.reads reads)) own (lead step p env spec) _ h.tells.says; fits = h.spot }

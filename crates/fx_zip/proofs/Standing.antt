@@ -24,9 +24,9 @@ use Rattle.fx_view.proofs.Rules.{follow-bind, found_more, found_answer}
 use Rattle.fx_walk.specs.Scopes.{HasScope}
 use Rattle.fx_zip.specs.declared.frame.Frame.{Frame}
 use Rattle.fx_zip.specs.declared.frame.Spot.{Spot}
-use Rattle.fx_zip.specs.Fresh.{around, around_last, IsHeld, IsSetOf, AreFound, IsFresh, Stands, left, last_step, last_set, last_caller, is_element, set_behind}
+use Rattle.fx_zip.specs.Fresh.{around, around_last, IsHeldSet, IsSetOf, AreFound, IsFresh, Stands, left, last_step, last_set, last_caller, is_element, set_behind}
 use Rattle.fx_zip.specs.Parts.{child, part}
-use Rattle.fx_zip.specs.Spots.{grown, framed, Leads, entered}
+use Rattle.fx_zip.specs.Spots.{grown, framed, LeadsToSpot, entered}
 use Rattle.fx_zip.specs.Trees.{ZipTree, path_of, is_settled, IsSettled, here}
 
 -- ---- reads
@@ -86,9 +86,9 @@ module _ (known : ReadList) (own : Known) (root : SpecTree) where
   found_scope d a fs env h = let at = found_described d a fs env h in record { scope = at.0; described = at.1 }
 
   -- one frame more
-  pub found_entered : (a : Address) (fs : List Frame) (env : Bindings) (step : Step) (spot : Spot) → AreFound known own root a fs env → Leads known own step (path_of fs) env (part root a) spot → AreFound known own root (step ∷ a) (framed env spot ∷ fs) (grown env spot.bound)
+  pub found_entered : (a : Address) (fs : List Frame) (env : Bindings) (step : Step) (spot : Spot) → AreFound known own root a fs env → LeadsToSpot known own step (path_of fs) env (part root a) spot → AreFound known own root (step ∷ a) (framed env spot ∷ fs) (grown env spot.bound)
   found_entered a fs env step spot h leads =
-      subst (λ e. (follow (known_of (take spot.reads known)) own (lead step (path_of fs) e (part root a)) ≡ Found (Some (placed spot.path (grown env spot.bound) (child step (part root a))))) × IsHeld step spot.set e (part root a) × AreFound known own root a fs e)
+      subst (λ e. (follow (known_of (take spot.reads known)) own (lead step (path_of fs) e (part root a)) ≡ Found (Some (placed spot.path (grown env spot.bound) (child step (part root a))))) × IsHeldSet step spot.set e (part root a) × AreFound known own root a fs e)
       (sym leads.fits.back) (leads.found, leads.fits.held, h)
 
 module _ (known : ReadList) (own : Known) (z : ZipTree) where
@@ -125,7 +125,7 @@ module _ (known : ReadList) (own : Known) (z : ZipTree) where
       let both = length-append h.ahead h.kept in
       none_ahead h.set h.ahead h.kept h.whole (omega (arith, same, frames, long, both)) h.found
 
-  pub stands_entered : (step : Step) (spot : Spot) → Stands known own z → Leads known own step (path_of z.frames) z.env (part z.root z.address) spot → Stands known own (entered z step spot)
+  pub stands_entered : (step : Step) (spot : Spot) → Stands known own z → LeadsToSpot known own step (path_of z.frames) z.env (part z.root z.address) spot → Stands known own (entered z step spot)
   stands_entered step spot h leads = record { found = found_entered known own z.root z.address z.frames z.env step spot h.found leads; set = tt }
 
 -- ---- one step less
@@ -152,7 +152,7 @@ found_without known own root [] (f ∷ fs) env h = absurd h
 found_without known own root (step ∷ a) [] env h = absurd h
 found_without known own root (step ∷ a) (f ∷ fs) env h = h.2
 
-held_is : (set : Option (List (List ℕ))) (t : List ℕ) (env : Bindings) (s : SpecTree) → IsHeld (Elem t) set env s → IsSetOf set env s
+held_is : (set : Option (List (List ℕ))) (t : List ℕ) (env : Bindings) (s : SpecTree) → IsHeldSet (Elem t) set env s → IsSetOf set env s
 held_is None t env s h = tt
 held_is (Some set) t env SpecTree.file h = tt
 held_is (Some set) t env SpecTree.dir h = tt

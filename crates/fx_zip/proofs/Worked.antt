@@ -19,9 +19,9 @@ use Rattle.fx_view.specs.Meaning.{Meaning}
 use Rattle.fx_view.specs.Reads.{known_of, Agrees}
 use Rattle.fx_view.proofs.Rules.{found_answer}
 use Rattle.fx_session.specs.Answering.{answered}
-use Rattle.fx_zip.specs.Calls.{Moves, settling_evals, place_evals, sideways_evals, AsksAt}
+use Rattle.fx_zip.specs.Calls.{Moves, settling_evals, place_evals, sideways_evals, AsksAtPlace}
 use Rattle.fx_zip.specs.Trees.{ZipTree, is_settled, IsSettled}
-use Rattle.fx_zip.specs.Worked.{Call, Into, To, Next, Down, Out, Up, Fetch, leads_to, still, call_evals, evals_at, where_accepted, calls_eval, Leaves, Accepts, Accept, CallsEvaluate, WalksInFive}
+use Rattle.fx_zip.specs.Worked.{Call, Into, To, Next, Down, Out, Up, Fetch, leads_to, still, call_evals, evals_at, where_accepted, calls_eval, IsUnreadMove, Accepts, Accept, CallsEvaluate, WalksInFive}
 use Rattle.fx_session.specs.Implements.{Implements}
 use Rattle.fx_session.specs.declared.session.Session.{Session}
 use Rattle.fx_view.specs.Own.{own_at}
@@ -69,7 +69,7 @@ module _ {R L : Type 0} (m : Meaning R) (old new : ZipTree) (was now : Session R
     address = leads ∙ answers {X = Result (Unit {0}) Refusal} (answered (λ (u : Unit {0}). new.address)) rule (Ok tt) h.follows;
   }
 
-  asked : (shape : ShapeTree) (v : Value) → AsksAt m tree_of old new was now (fetch_at shape) (Ok v) → Came m old new was now (Fetch shape) S
+  asked : (shape : ShapeTree) (v : Value) → AsksAtPlace m tree_of old new was now (fetch_at shape) (Ok v) → Came m old new was now (Fetch shape) S
   asked shape v h = record {
     before = agrees_on h.follows S agrees;
     most = λ e. let most = h.most S agrees in let none = no_settling old (changed (own_at was.own) S) e in omega (arith, most, none);
@@ -79,7 +79,7 @@ module _ {R L : Type 0} (m : Meaning R) (old new : ZipTree) (was now : Session R
     address = ap (still old.address) (answers (answered tree_of) (at_place old.root old.address (fetch_at shape)) (Ok v) h.follows) ∙ ap (λ a. Ok a) (sym h.address);
   }
 
-  left : (c : Call) (told : Answered Address) → call_evals old.root (changed (own_at was.own) S) old.address c ≡ 0 → leads_to old.root (changed (own_at was.own) S) old.address c ≡ told → Leaves old new was now told → Came m old new was now c S
+  left : (c : Call) (told : Answered Address) → call_evals old.root (changed (own_at was.own) S) old.address c ≡ 0 → leads_to old.root (changed (own_at was.own) S) old.address c ≡ told → IsUnreadMove old new was now told → Came m old new was now c S
   left c told none leads h = record {
     before = subst (λ (s : Session R L). Agrees (m.reads s.reader.now) S) h.same agrees;
     most = λ e. let same = ap (λ (s : Session R L). s.steps) h.same in omega (arith, same);

@@ -96,8 +96,8 @@ pub record Asks {R L A X : Type 0} (m : Meaning R) (view : X → A) (old new : Z
   pub most : Evaluates m old was now evals
 
 -- the rule of a question at the place
-abbrev pub AsksAt : {R L A X : Type 0} → Meaning R → (X → A) → ZipTree → ZipTree → Session R L → Session R L → (PlaceTree → Ask (Answered A)) → Result X Halt → Type 0
-AsksAt m view old new was now rule result = Asks m view old new was now (at_place old.root old.address rule) (place_evals old rule) result
+abbrev pub AsksAtPlace : {R L A X : Type 0} → Meaning R → (X → A) → ZipTree → ZipTree → Session R L → Session R L → (PlaceTree → Ask (Answered A)) → Result X Halt → Type 0
+AsksAtPlace m view old new was now rule result = Asks m view old new was now (at_place old.root old.address rule) (place_evals old rule) result
 
 -- the zipper stands, and moves to the address that the rule answers, or stays where it is
 pub record Turns {R L : Type 0} (m : Meaning R) (old new : ZipTree) (was now : Session R L) (rule : Ask (Answered Address)) (evals : Store → ℕ) (result : Result (Unit {0}) Halt) : Type 0 where
@@ -162,7 +162,7 @@ SettlesTo m start now old new (Ok false) =
 SettlesTo m start now old new (Err why) =
     Implements {A = Option PlaceTree} {X = Option PlaceTree} m (λ at. at) start now (place old.root old.address) (Err why)
 
-pub record Settles {R L : Type 0} (m : Meaning R) (old new : ZipTree) (was now : Session R L) (result : Result Bool Stop) : Type 0 where
+pub record SettlesFrames {R L : Type 0} (m : Meaning R) (old new : ZipTree) (was now : Session R L) (result : Result Bool Stop) : Type 0 where
   pub root : new.root ≡ old.root
   pub address : new.address ≡ old.address
   pub to : (start : Session R L) → IsSettling m start was old → SettlesTo m start now old new result

@@ -29,9 +29,9 @@ abbrev pub HasSet : Option (List (List ℕ)) → Outcome → Type 0
 HasSet None o = ⊥
 HasSet (Some set) o = set_answer o ≡ Ok set
 
-abbrev pub IsHeld : Step → Option (List (List ℕ)) → Bindings → SpecTree → Type 0
-IsHeld (Elem t) set env (SpecTree.comp s x e) = HasSet set (eval_of env e)
-IsHeld _ set env spec = Unit {0}
+abbrev pub IsHeldSet : Step → Option (List (List ℕ)) → Bindings → SpecTree → Type 0
+IsHeldSet (Elem t) set env (SpecTree.comp s x e) = HasSet set (eval_of env e)
+IsHeldSet _ set env spec = Unit {0}
 
 -- a set that is kept at a comprehension is its set
 abbrev pub IsSetOf : Option (List (List ℕ)) → Bindings → SpecTree → Type 0
@@ -46,7 +46,7 @@ AreFound reads own root [] (f ∷ fs) env = ⊥
 AreFound reads own root (step ∷ above) [] env = ⊥
 AreFound reads own root (step ∷ above) (f ∷ fs) env =
     (follow (known_of (take f.reads reads)) own (lead step (path_of fs) (around step f.caller env) (part root above)) ≡ Found (Some (placed f.path env (child step (part root above)))))
-    × IsHeld step f.set (around step f.caller env) (part root above)
+    × IsHeldSet step f.set (around step f.caller env) (part root above)
     × AreFound reads own root above fs (around step f.caller env)
 
 -- the frames are those of the first steps; those of the others are not kept
@@ -78,9 +78,9 @@ abbrev pub is_first : Option Step → Bool
 is_first (Some First) = true
 is_first _ = false
 
-abbrev pub is_second : Option Step → Bool
-is_second (Some Second) = true
-is_second _ = false
+abbrev pub is_second_step : Option Step → Bool
+is_second_step (Some Second) = true
+is_second_step _ = false
 
 abbrev pub is_element : Option Step → Bool
 is_element (Some (Elem t)) = true

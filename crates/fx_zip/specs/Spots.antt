@@ -23,10 +23,10 @@ use Rattle.fx_zip.specs.declared.frame.Bound.TheVariants as bounds
 use Rattle.fx_zip.specs.declared.frame.Frame.{Frame}
 use Rattle.fx_zip.specs.declared.frame.Spot.{Spot}
 use Rattle.fx_zip.specs.declared.frame.Entry.{Entry}
-use Rattle.fx_zip.specs.Fresh.{around, IsHeld}
+use Rattle.fx_zip.specs.Fresh.{around, IsHeldSet}
 use Rattle.fx_zip.specs.Parts.{child, part}
 use Rattle.fx_zip.specs.Steps.{step_tree}
-use Rattle.fx_zip.specs.Telling.{Says, Tells}
+use Rattle.fx_zip.specs.Telling.{Says, TellsWithin}
 use Rattle.fx_zip.specs.Trees.{ZipTree, path_of}
 
 -- the names after a step: the same, one more, or others
@@ -36,10 +36,10 @@ grown env (bounds.Name x v) = env ++ (x, tree_of v) ∷ []
 grown env (bounds.Names names) = names
 
 -- the one name more
-abbrev pub name_in : Bound → Option (List ℕ × Tree)
-name_in bounds.Nothing = None
-name_in (bounds.Name x v) = Some (x, tree_of v)
-name_in (bounds.Names names) = None
+abbrev pub bound_name : Bound → Option (List ℕ × Tree)
+bound_name bounds.Nothing = None
+bound_name (bounds.Name x v) = Some (x, tree_of v)
+bound_name (bounds.Names names) = None
 
 -- the names before the step, where it binds others
 abbrev pub caller_in : Bindings → Bound → Option Bindings
@@ -57,11 +57,11 @@ spot_place env spec spot = placed spot.path (grown env spot.bound) spec
 
 -- the spot keeps the set of the comprehension, and from its names those before it come back
 pub record IsSpot (step : Step) (env : Bindings) (spec : SpecTree) (spot : Spot) : Type 0 where
-  pub held : IsHeld step spot.set env spec
+  pub held : IsHeldSet step spot.set env spec
   pub back : around step (caller_in env spot.bound) (grown env spot.bound) ≡ env
 
 -- the step leads from a place to the spot
-pub record Leads (reads : ReadList) (own : Known) (step : Step) (p : List (List ℕ)) (env : Bindings) (spec : SpecTree) (spot : Spot) : Type 0 where
+pub record LeadsToSpot (reads : ReadList) (own : Known) (step : Step) (p : List (List ℕ)) (env : Bindings) (spec : SpecTree) (spot : Spot) : Type 0 where
   pub found : follow (known_of (take spot.reads reads)) own (lead step p env spec) ≡ Found (Some (spot_place env (child step spec) spot))
   pub fits : IsSpot step env spec spot
 
@@ -77,12 +77,12 @@ entered z step spot = record { root = z.root; address = step ∷ z.address; fram
 pub record BindsText (p : List (List ℕ)) (x t : List ℕ) (set : List (List ℕ)) (spot : Spot) : Type 0 where
   pub path : spot.path ≡ p
   pub held : spot.set ≡ Some set
-  pub bound : name_in spot.bound ≡ Some (x, Tree.str t)
+  pub bound : bound_name spot.bound ≡ Some (x, Tree.str t)
 
 -- one that binds the name to the value
 pub record BindsValue (p : List (List ℕ)) (x : List ℕ) (v : Tree) (spot : Spot) : Type 0 where
   pub path : spot.path ≡ p
-  pub bound : name_in spot.bound ≡ Some (x, v)
+  pub bound : bound_name spot.bound ≡ Some (x, v)
 
 -- one that binds these names alone
 pub record BindsNames (p : List (List ℕ)) (names : Bindings) (spot : Spot) : Type 0 where
@@ -91,12 +91,12 @@ pub record BindsNames (p : List (List ℕ)) (names : Bindings) (spot : Spot) : T
 
 -- the value that a spot binds
 abbrev pub bound_value : Spot → Tree
-bound_value spot = unwrap_or (option_map (λ (b : List ℕ × Tree). b.1) (name_in spot.bound)) Tree.nothing
+bound_value spot = unwrap_or (option_map (λ (b : List ℕ × Tree). b.1) (bound_name spot.bound)) Tree.nothing
 
 -- the call answers the spot to which the step leads, where it leads to one
 pub record LeadsTo {R L : Type 0} (m : Meaning R) (step : Step) (p : List (List ℕ)) (env : Bindings) (spec : SpecTree) (was now : Session R L) (result : Result (Option Spot) Stop) : Type 0 where
   pub follows : Implements m (option_map (spot_place env (child step spec))) was now (lead step p env spec) result
-  pub spot : IfOk result (λ o. IfSome o (Leads (m.reads now.reader.now) (own_at now.own) step p env spec))
+  pub spot : IfOk result (λ o. IfSome o (LeadsToSpot (m.reads now.reader.now) (own_at now.own) step p env spec))
 
 -- the same of the first step that has no frame
 pub record LeadsNext {R L : Type 0} (m : Meaning R) (z : ZipTree) (was now : Session R L) (result : Result (Option Spot) Stop) : Type 0 where
@@ -109,7 +109,7 @@ pub record LeadsNext {R L : Type 0} (m : Meaning R) (z : ZipTree) (was now : Ses
 
 -- and consults nothing
 pub record LeadsAt (step : Step) (p : List (List ℕ)) (env : Bindings) (spec : SpecTree) (was now : ℕ) (result : Result (Option Spot) Stop) : Type 0 where
-  pub tells : Tells (option_map (spot_place env (child step spec))) was now (lead step p env spec) result
+  pub tells : TellsWithin (option_map (spot_place env (child step spec))) was now (lead step p env spec) result
   pub spot : IfOk result (λ o. IfSome o (IsSpot step env spec))
 
 -- the call answers where the second part of the pair around a first part is, where the first part has a value
@@ -124,12 +124,12 @@ pub record FirstLeads {R L : Type 0} (m : Meaning R) (z : ZipTree) (was now : Se
 -- the call answers the entry of the step that the rule of a move adds
 pub record Enters {R L : Type 0} (m : Meaning R) (rule : Address → Ask (Answered Address)) (p : List (List ℕ)) (env : Bindings) (spec : SpecTree) (was now : Session R L) (result : Result Entry Halt) : Type 0 where
   pub follows : (a : Address) → Answers m (λ e. step_tree e.step ∷ a) was now (rule a) result
-  pub leads : IfOk result (λ e. Leads (m.reads now.reader.now) (own_at now.own) (step_tree e.step) p env spec e.spot)
+  pub leads : IfOk result (λ e. LeadsToSpot (m.reads now.reader.now) (own_at now.own) (step_tree e.step) p env spec e.spot)
 
 -- and consults nothing
 pub record EntersAt (rule : Address → Ask (Answered Address)) (p : List (List ℕ)) (env : Bindings) (spec : SpecTree) (was now : ℕ) (result : Result Entry Halt) : Type 0 where
-  pub tells : (a : Address) → Tells (answered (λ e. step_tree e.step ∷ a)) was now (rule a) (split result)
-  pub leads : (reads : ReadList) (own : Known) → IfOk result (λ e. Leads reads own (step_tree e.step) p env spec e.spot)
+  pub tells : (a : Address) → TellsWithin (answered (λ e. step_tree e.step ∷ a)) was now (rule a) (split result)
+  pub leads : (reads : ReadList) (own : Known) → IfOk result (λ e. LeadsToSpot reads own (step_tree e.step) p env spec e.spot)
 
 -- the same by a move from the place
 abbrev pub EntersBy : {R L : Type 0} → Meaning R → (Address → List (List ℕ) → Bindings → SpecTree → Ask (Answered Address)) → List (List ℕ) → Bindings → SpecTree → Session R L → Session R L → Result Entry Halt → Type 0
@@ -145,4 +145,4 @@ pub record Chooses (p : List (List ℕ)) (x : List ℕ) (set : List (List ℕ)) 
 
 -- the entry's step leads from the place at which a zipper stands
 abbrev pub LeadsFrom : ReadList → Known → ZipTree → Entry → Type 0
-LeadsFrom reads own z e = Leads reads own (step_tree e.step) (path_of z.frames) z.env (part z.root z.address) e.spot
+LeadsFrom reads own z e = LeadsToSpot reads own (step_tree e.step) (path_of z.frames) z.env (part z.root z.address) e.spot

@@ -37,7 +37,7 @@ Says view answer (Ok x) = answer ≡ Some (view x)
 Says view answer (Err stop.NoMemory) = Unit {0}
 Says view answer (Err (stop.Needs p)) = ⊥
 
-pub record Tells {A X : Type 0} (view : X → A) (was now : ℕ) (rule : Ask A) (result : Result X Stop) : Type 0 where
+pub record TellsWithin {A X : Type 0} (view : X → A) (was now : ℕ) (rule : Ask A) (result : Result X Stop) : Type 0 where
   pub says : Says view (told rule) result
   pub most : now ≤ was + costs rule
 
@@ -52,9 +52,9 @@ names_answer (Ok names) = Ok names
 names_answer (Err f) = Err (Refusal.Expr f)
 
 -- nothing, where each argument has a value, or their first fault
-abbrev pub tried : Result (List Tree) ExprFault → Answered (Unit {0})
-tried (Ok vs) = Ok tt
-tried (Err f) = Err (Refusal.Expr f)
+abbrev pub arguments_tried : Result (List Tree) ExprFault → Answered (Unit {0})
+arguments_tried (Ok vs) = Ok tt
+arguments_tried (Err f) = Err (Refusal.Expr f)
 
 -- each argument of a call is well shaped
 abbrev pub AreWellShaped : Bindings → List ExprTree → Type 0

@@ -19,7 +19,7 @@ use Rattle.fx_view.specs.Meaning.{Meaning}
 use Rattle.fx_view.specs.Own.{own_at}
 use Rattle.fx_view.specs.Reads.{Agrees}
 use Rattle.fx_session.specs.declared.session.Session.{Session}
-use Rattle.fx_zip.specs.Calls.{Moves, MovesBy, AsksAt, sideways_evals}
+use Rattle.fx_zip.specs.Calls.{Moves, MovesBy, AsksAtPlace, sideways_evals}
 use Rattle.fx_zip.specs.Trees.{ZipTree, IsSettled}
 
 pub data Call : Type 0 where
@@ -69,7 +69,7 @@ calls_eval root S a (c ∷ cs) = call_evals root S a c + where_accepted (λ b. c
 -- ---- what the clauses say of them
 
 -- a call that is accepted and reads nothing
-pub record Leaves {R L : Type 0} (old new : ZipTree) (was now : Session R L) (told : Answered Address) : Type 0 where
+pub record IsUnreadMove {R L : Type 0} (old new : ZipTree) (was now : Session R L) (told : Answered Address) : Type 0 where
   pub same : now ≡ was
   pub root : new.root ≡ old.root
   pub address : told ≡ Ok new.address
@@ -81,9 +81,9 @@ Accepts m old new was now Into = MovesBy m old new was now go_into (Ok tt)
 Accepts m old new was now (To t) = MovesBy m old new was now (go_to t) (Ok tt)
 Accepts m old new was now Next = Moves m old new was now (go_next old.root old.address) (sideways_evals old old.address) (Ok tt)
 Accepts m old new was now Down = MovesBy m old new was now go_down (Ok tt)
-Accepts m old new was now Out = Leaves old new was now (go_out old.address)
-Accepts m old new was now Up = Leaves old new was now (go_up old.address)
-Accepts m old new was now (Fetch shape) = (v : Value) × AsksAt m tree_of old new was now (fetch_at shape) (Ok v)
+Accepts m old new was now Out = IsUnreadMove old new was now (go_out old.address)
+Accepts m old new was now Up = IsUnreadMove old new was now (go_up old.address)
+Accepts m old new was now (Fetch shape) = (v : Value) × AsksAtPlace m tree_of old new was now (fetch_at shape) (Ok v)
 
 -- one after another
 abbrev pub Accept : {R L : Type 0} → Meaning R → List Call → ZipTree → ZipTree → Session R L → Session R L → Type 0
@@ -99,8 +99,8 @@ CallsEvaluate {R} L m =
 -- ---- a worked walk
 
 -- the names of a directory, and the files of those that end in `.txt`
-abbrev pub texts : SpecTree
-texts = SpecTree.pair (codes "d") SpecTree.dir (SpecTree.comp (SpecTree.focus (ExprTree.var (codes "n")) SpecTree.file) (codes "n") (ExprTree.only (ExprTree.var (codes "d")) (codes "*.txt")))
+abbrev pub texts_description : SpecTree
+texts_description = SpecTree.pair (codes "d") SpecTree.dir (SpecTree.comp (SpecTree.focus (ExprTree.var (codes "n")) SpecTree.file) (codes "n") (ExprTree.only (ExprTree.var (codes "d")) (codes "*.txt")))
 
 abbrev pub a_txt : List ℕ
 a_txt = codes "a.txt"
@@ -108,8 +108,8 @@ a_txt = codes "a.txt"
 abbrev pub b_txt : List ℕ
 b_txt = codes "b.txt"
 
-abbrev pub folder : Store
-folder = store_of (([], Dir (a_txt ∷ b_txt ∷ codes "c" ∷ [])) ∷ (a_txt ∷ [], File (codes "A") false) ∷ (b_txt ∷ [], File (codes "B") false) ∷ (codes "c" ∷ [], File (codes "C") false) ∷ [])
+abbrev pub worked_folder : Store
+worked_folder = store_of (([], Dir (a_txt ∷ b_txt ∷ codes "c" ∷ [])) ∷ (a_txt ∷ [], File (codes "A") false) ∷ (b_txt ∷ [], File (codes "B") false) ∷ (codes "c" ∷ [], File (codes "C") false) ∷ [])
 
 abbrev pub there_and_back : List Call
 there_and_back = Into ∷ Next ∷ Fetch ShapeTree.names ∷ To a_txt ∷ Down ∷ Fetch ShapeTree.str ∷ Up ∷ Out ∷ To b_txt ∷ Down ∷ []
@@ -125,5 +125,5 @@ ends_at root S a (c ∷ cs) = goes_on (λ b. ends_at root S b cs) (leads_to root
 
 -- its ten calls are accepted, and evaluate five times together
 pub record WalksInFive : Type 0 where
-  pub ends : ends_at texts folder [] there_and_back ≡ Ok (steps.Down ∷ Elem b_txt ∷ Second ∷ [])
-  pub five : calls_eval texts folder [] there_and_back ≡ 5
+  pub ends : ends_at texts_description worked_folder [] there_and_back ≡ Ok (steps.Down ∷ Elem b_txt ∷ Second ∷ [])
+  pub five : calls_eval texts_description worked_folder [] there_and_back ≡ 5

@@ -6,7 +6,7 @@ ghost use Rattle.fx_expr.specs.Views.{shape_tree, tree_of};
 ghost use Rattle.fx_spec.specs.Move.{fetch_at, whole_at, validate_at};
 ghost use Rattle.fx_spec.specs.WellShaped.{IsDescription};
 ghost use Rattle.fx_session.specs.Implements.{Answers};
-ghost use Rattle.fx_zip.specs.Calls.{AsksAt};
+ghost use Rattle.fx_zip.specs.Calls.{AsksAtPlace};
 ghost use Rattle.fx_zip.specs.Fresh.{IsFreshIn, StandsIn};
 ghost use Rattle.fx_zip.specs.Trees.{here};
 
@@ -29,7 +29,7 @@ impl Zip {
         shape: &Shape,
     ) -> Result<Value, Halt>
         requires fresh { IsFreshIn R.meaning session.old self.old }
-        ensures asks { AsksAt R.meaning tree_of self.old self.new
+        ensures asks { AsksAtPlace R.meaning tree_of self.old self.new
             session.old session.new (fetch_at (shape_tree shape.now)) result }
         ensures shape { IfOk result (λ value. ValueHas (tree_of value) (shape_tree shape.now)) }
     {
@@ -45,7 +45,7 @@ impl Zip {
         shape: &Shape,
     ) -> Result<Value, Halt>
         requires fresh { IsFreshIn R.meaning session.old self.old }
-        ensures asks { AsksAt R.meaning tree_of self.old self.new
+        ensures asks { AsksAtPlace R.meaning tree_of self.old self.new
             session.old session.new (whole_at (shape_tree shape.now)) result }
         ensures shape { IfOk result (λ value. ValueHas (tree_of value) (shape_tree shape.now)) }
     {
@@ -59,7 +59,7 @@ impl Zip {
         session: &mut Session<'_, R, L>,
     ) -> Result<bool, Halt>
         requires fresh { IsFreshIn R.meaning session.old self.old }
-        ensures asks { AsksAt R.meaning (λ b. Tree.bool b) self.old self.new
+        ensures asks { AsksAtPlace R.meaning (λ b. Tree.bool b) self.old self.new
             session.old session.new validate_at result }
     {
         self.find(session)?;

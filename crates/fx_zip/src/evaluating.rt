@@ -12,7 +12,7 @@ ghost use Rattle.fx_session.specs.Answering.{answered};
 ghost use Rattle.fx_session.specs.Halts.{split};
 ghost use Rattle.fx_session.specs.Implements.{ticked};
 ghost use Rattle.fx_walk.specs.Arguments.{HaveShapes, inner_names};
-ghost use Rattle.fx_zip.specs.Telling.{OnlyCounts, Says, AreWellShaped, set_answer, names_answer, tried, given};
+ghost use Rattle.fx_zip.specs.Telling.{OnlyCounts, Says, AreWellShaped, set_answer, names_answer, arguments_tried, given};
 
 use fx_expr::{Env, Formula, TextSet, Value};
 use fx_session::{Halt, Session};
@@ -122,7 +122,7 @@ pub(crate) fn try_arguments<R: Reader, L: Ledger>(
 ) -> Result<(), Halt>
     requires { AreWellShaped env.now args.now }
     ensures faults { Says (answered (λ u. u))
-        (Some (tried (describe.arguments env.now args.now))) (split result) }
+        (Some (arguments_tried (describe.arguments env.now args.now))) (split result) }
     ensures most { session.new.steps
         ≤ session.old.steps + describe.argument_evals env.now args.now }
     ensures still { OnlyCounts session.old session.new }

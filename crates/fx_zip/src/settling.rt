@@ -4,7 +4,7 @@ ghost use Rattle.fx_spec.specs.Shaped.{IsDescribedPlace};
 ghost use Rattle.fx_spec.specs.WellShaped.{AreDefined};
 ghost use Rattle.fx_session.specs.Implements.{Answers};
 ghost use Rattle.fx_walk.specs.Places.{place_tree};
-ghost use Rattle.fx_zip.specs.Calls.{Finds, Settles, Evaluates, place_needed};
+ghost use Rattle.fx_zip.specs.Calls.{Finds, SettlesFrames, Evaluates, place_needed};
 ghost use Rattle.fx_zip.specs.Fresh.{IsFreshIn};
 ghost use Rattle.fx_zip.specs.Spots.{LeadsNext};
 ghost use Rattle.fx_zip.specs.Trees.{is_settled};
@@ -61,7 +61,7 @@ impl Zip {
     ) -> Result<bool, Stop>
         requires fresh { IsFreshIn R.meaning session.old self.old }
         requires unsettled { is_settled self.old ≡ false }
-        ensures settles { Settles R.meaning self.old self.new
+        ensures settles { SettlesFrames R.meaning self.old self.new
             session.old session.new result }
     {
         match self.next_spot(session)? {

@@ -8,7 +8,7 @@ ghost use Rattle.fx_store.specs.Rule.{Known};
 ghost use Rattle.fx_view.specs.ReadList.{ReadList};
 ghost use Rattle.fx_zip.specs.Calls.{Moves, Turns, Turned, Besides};
 ghost use Rattle.fx_zip.specs.Calls.{sideways_evals, next_at, prev_at, next_evals, beside};
-ghost use Rattle.fx_zip.specs.Fresh.{IsFreshIn, Stands, StandsIn, IsNoElement, last_step, last_set, is_first, is_second};
+ghost use Rattle.fx_zip.specs.Fresh.{IsFreshIn, Stands, StandsIn, IsNoElement, last_step, last_set, is_first, is_second_step};
 ghost use Rattle.fx_zip.specs.Parts.{comp_name, part};
 ghost use Rattle.fx_zip.specs.Spots.{Chooses, FirstLeads};
 ghost use Rattle.fx_zip.specs.Trees.{here, path_of};
@@ -124,7 +124,7 @@ impl Zip {
 
     /// Whether the zipper stands at a second part.
     fn is_at_second(&self) -> bool
-        ensures { result ≡ is_second (last_step self.now.address) }
+        ensures { result ≡ is_second_step (last_step self.now.address) }
     {
         match self.last() {
             Some(Step::Second) => true,

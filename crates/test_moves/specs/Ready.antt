@@ -3,5 +3,5 @@ use Rattle.fx_view.specs.Own.{own_at}
 use Rattle.fx_zip.specs.Fresh.{IsFresh}
 use Rattle.test_moves.specs.declared.walk.Walk.{Walk}
 
-abbrev pub IsReady : {L : Type 0} → Walk L → Type 0
-IsReady w = IsFresh w.session.reader.now.reads (own_at w.session.own) w.zip
+abbrev pub IsReadyWalk : {L : Type 0} → Walk L → Type 0
+IsReadyWalk w = IsFresh w.session.reader.now.reads (own_at w.session.own) w.zip

@@ -1,7 +1,7 @@
 //! The commands at a zipper, as the lines of cases name them.
 ghost use Rattle.std.specs.Prelude.{IfOk};
 ghost use Rattle.fx_session.specs.Halts.{split};
-ghost use Rattle.test_moves.specs.Ready.{IsReady};
+ghost use Rattle.test_moves.specs.Ready.{IsReadyWalk};
 
 use crate::verbs::{Edit, Move, Question};
 use crate::walk::Walk;
@@ -11,8 +11,8 @@ use std::sync::ledger::Ledger;
 
 /// Moves; `text` is the element of `to`.
 pub fn move_by<L: Ledger>(walk: &mut Walk<'_, '_, L>, act: Move, text: &Text) -> Result<(), Halt>
-    requires ready { IsReady walk.old }
-    ensures ready { IfOk (split result) (λ _. IsReady walk.new) }
+    requires ready { IsReadyWalk walk.old }
+    ensures ready { IfOk (split result) (λ _. IsReadyWalk walk.new) }
 {
     match act {
         Move::Into => walk.zip.go_into(&mut walk.session),
@@ -35,8 +35,8 @@ pub fn ask<L: Ledger>(
     question: Question,
     shape: &Shape,
 ) -> Result<Value, Halt>
-    requires ready { IsReady walk.old }
-    ensures ready { IfOk (split result) (λ _. IsReady walk.new) }
+    requires ready { IsReadyWalk walk.old }
+    ensures ready { IfOk (split result) (λ _. IsReadyWalk walk.new) }
 {
     match question {
         Question::Fetch => walk.zip.fetch(&mut walk.session, shape),
@@ -49,8 +49,8 @@ pub fn ask<L: Ledger>(
 }
 
 fn store<L: Ledger>(walk: &mut Walk<'_, '_, L>, value: &Value) -> Result<(), Halt>
-    requires ready { IsReady walk.old }
-    ensures ready { IfOk (split result) (λ _. IsReady walk.new) }
+    requires ready { IsReadyWalk walk.old }
+    ensures ready { IfOk (split result) (λ _. IsReadyWalk walk.new) }
 {
     let untouched = fx_edit::store(&mut walk.session, &walk.zip.here(), value)?;
     walk.zip.edited(untouched);
@@ -58,8 +58,8 @@ fn store<L: Ledger>(walk: &mut Walk<'_, '_, L>, value: &Value) -> Result<(), Hal
 }
 
 fn create<L: Ledger>(walk: &mut Walk<'_, '_, L>) -> Result<(), Halt>
-    requires ready { IsReady walk.old }
-    ensures ready { IfOk (split result) (λ _. IsReady walk.new) }
+    requires ready { IsReadyWalk walk.old }
+    ensures ready { IfOk (split result) (λ _. IsReadyWalk walk.new) }
 {
     let untouched = fx_edit::create(&mut walk.session, &walk.zip.here())?;
     walk.zip.edited(untouched);
@@ -67,8 +67,8 @@ fn create<L: Ledger>(walk: &mut Walk<'_, '_, L>) -> Result<(), Halt>
 }
 
 fn remove<L: Ledger>(walk: &mut Walk<'_, '_, L>) -> Result<(), Halt>
-    requires ready { IsReady walk.old }
-    ensures ready { IfOk (split result) (λ _. IsReady walk.new) }
+    requires ready { IsReadyWalk walk.old }
+    ensures ready { IfOk (split result) (λ _. IsReadyWalk walk.new) }
 {
     let untouched = fx_edit::remove(&mut walk.session, &walk.zip.here())?;
     walk.zip.edited(untouched);
@@ -77,8 +77,8 @@ fn remove<L: Ledger>(walk: &mut Walk<'_, '_, L>) -> Result<(), Halt>
 
 /// Edits at the place; `value` is what is stored.
 pub fn edit_by<L: Ledger>(walk: &mut Walk<'_, '_, L>, edit: Edit, value: &Value) -> Result<(), Halt>
-    requires ready { IsReady walk.old }
-    ensures ready { IfOk (split result) (λ _. IsReady walk.new) }
+    requires ready { IsReadyWalk walk.old }
+    ensures ready { IfOk (split result) (λ _. IsReadyWalk walk.new) }
 {
     walk.zip.find(&mut walk.session)?;
     match edit {

@@ -1,7 +1,7 @@
 //! A zipper that goes through the commands of a case.
 ghost use Rattle.std.specs.Prelude.{◌≡◌, ◌<◌, IfOk, IsOk};
 ghost use Rattle.fx_session.specs.Halts.{split};
-ghost use Rattle.test_moves.specs.Ready.{IsReady};
+ghost use Rattle.test_moves.specs.Ready.{IsReadyWalk};
 
 use crate::acts::{ask, edit_by, move_by};
 use crate::spelled::{node_of, path_of, shape_of, text_of, value_of};
@@ -31,8 +31,8 @@ fn tell_move<L: Ledger>(
     spelled: &str,
     out: &mut String,
 ) -> Result<(), NoMemory>
-    requires { IsReady walk.old }
-    ensures { IfOk result (λ _. IsReady walk.new) }
+    requires { IsReadyWalk walk.old }
+    ensures { IfOk result (λ _. IsReadyWalk walk.new) }
 {
     let text = text_of(walk.session.alloc, spelled)?;
     let answer = move_by(walk, act, &text);
@@ -45,8 +45,8 @@ fn tell_question<L: Ledger>(
     spelled: &str,
     out: &mut String,
 ) -> Result<(), NoMemory>
-    requires { IsReady walk.old }
-    ensures { IfOk result (λ _. IsReady walk.new) }
+    requires { IsReadyWalk walk.old }
+    ensures { IfOk result (λ _. IsReadyWalk walk.new) }
 {
     let shape = shape_of(walk.session.alloc, spelled)?;
     let answer = ask(walk, question, &shape);
@@ -59,8 +59,8 @@ fn tell_edit<L: Ledger>(
     spelled: &str,
     out: &mut String,
 ) -> Result<(), NoMemory>
-    requires { IsReady walk.old }
-    ensures { IfOk result (λ _. IsReady walk.new) }
+    requires { IsReadyWalk walk.old }
+    ensures { IfOk result (λ _. IsReadyWalk walk.new) }
 {
     let value = value_of(walk.session.alloc, spelled)?;
     let answer = edit_by(walk, edit, &value);
@@ -96,7 +96,7 @@ fn change(
 
 /// Reads a path, puts an own change there, and says so to the zipper.
 fn put_by<L: Ledger>(walk: &mut Walk<'_, '_, L>, put: Put, spelled: &str) -> Result<(), NoMemory>
-    ensures { IfOk result (λ _. IsReady walk.new) }
+    ensures { IfOk result (λ _. IsReadyWalk walk.new) }
 {
     let (path, text) = split_word(spelled);
     read(walk.session.alloc, &mut *walk.session.reader, path)?;
@@ -121,8 +121,8 @@ fn tell_standing<L: Ledger>(
 }
 
 fn tell_found<L: Ledger>(walk: &mut Walk<'_, '_, L>, out: &mut String) -> Result<(), NoMemory>
-    requires { IsReady walk.old }
-    ensures { IfOk result (λ _. IsReady walk.new) }
+    requires { IsReadyWalk walk.old }
+    ensures { IfOk result (λ _. IsReadyWalk walk.new) }
 {
     let answer = walk.zip.find(&mut walk.session);
     tell_standing(walk, answer, out)
@@ -138,8 +138,8 @@ fn tell_known<L: Ledger>(
 
 /// Does what a line says, and tells what it gives.
 fn obey<L: Ledger>(walk: &mut Walk<'_, '_, L>, line: &str, out: &mut String) -> Result<(), NoMemory>
-    requires { IsReady walk.old }
-    ensures { IfOk result (λ _. IsReady walk.new) }
+    requires { IsReadyWalk walk.old }
+    ensures { IfOk result (λ _. IsReadyWalk walk.new) }
 {
     let (word, rest) = split_word(line);
     match verb_of(word) {
@@ -166,7 +166,7 @@ fn add_lines<L: Ledger>(
     lines: &str,
     out: &mut String,
 ) -> Result<(), NoMemory>
-    requires { IsReady walk.old }
+    requires { IsReadyWalk walk.old }
 {
     'commands: for line in lines.lines() {
         add_line(out, line)?;

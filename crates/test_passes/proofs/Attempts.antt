@@ -11,7 +11,7 @@ use Rattle.fx_turn.proofs.Growth.{begins_same}
 use Rattle.fx_shared.specs.Passes.{LogView, HasSeenMore, IsLook}
 use Rattle.fx_workers.specs.Live.{AreTrueOver}
 use Rattle.fx_workers.proofs.Looks.{see_on, stand_more}
-use Rattle.test_passes.specs.Workings.{AddsLook, HasRun, HasTried}
+use Rattle.test_passes.specs.Workings.{AddsLook, HasRun, HasRunOrSeen}
 
 pub seen_same : (v : LogView) → HasSeenMore v v
 seen_same v = record { number = refl; base = refl; mine = refl; seen = begins_same v.seen v.seen refl }
@@ -21,7 +21,7 @@ pub run_over : (base : BaseTree) (shell txn : ℕ) (v : LogView) (known : ReadLi
 run_over base shell txn v known a whose number explained same stand = record { seen = seen_same v; whose = whose; number = number; explained = explained; stand = subst (AreTrueOver v) (sym same) stand }
 
 -- a needed path is looked at
-pub learned : (base : BaseTree) (shell txn : ℕ) (start now : LogView) (before known : ReadList) (path : _) → HasSeenMore start now → ((node : Option Node) (position : ℕ) → ReadsFit base (shell, txn) (before ++ (path, (node, position)) ∷ [])) → AddsLook before path known → AreTrueOver now known → HasTried base shell txn start now known None
+pub learned : (base : BaseTree) (shell txn : ℕ) (start now : LogView) (before known : ReadList) (path : _) → HasSeenMore start now → ((node : Option Node) (position : ℕ) → ReadsFit base (shell, txn) (before ++ (path, (node, position)) ∷ [])) → AddsLook before path known → AreTrueOver now known → HasRunOrSeen base shell txn start now known None
 learned base shell txn start now before known path seen fit adds stand = (seen, record { fit = subst (ReadsFit base (shell, txn)) (sym adds.2) (fit adds.0 adds.1); stand = stand })
 
 -- a look is added

@@ -35,9 +35,9 @@ pub record HasRun (base : BaseTree) (shell txn : ℕ) (start now : LogView) (a :
   pub stand : AreTrueOver now a.reads
 
 -- the transaction was run; or more is known
-abbrev pub HasTried : BaseTree → ℕ → ℕ → LogView → LogView → ReadList → Option Attempt → Type 0
-HasTried base shell txn start now reads None = HasSeenMore start now × IsKnown base (shell, txn) now reads
-HasTried base shell txn start now reads (Some a) = HasRun base shell txn start now a
+abbrev pub HasRunOrSeen : BaseTree → ℕ → ℕ → LogView → LogView → ReadList → Option Attempt → Type 0
+HasRunOrSeen base shell txn start now reads None = HasSeenMore start now × IsKnown base (shell, txn) now reads
+HasRunOrSeen base shell txn start now reads (Some a) = HasRun base shell txn start now a
 
 module _ {g : Ghosts Log BaseTree Turn} where
   -- the pass is ready and has this base, and no entries

@@ -7,10 +7,10 @@ ghost use Rattle.fx_view.specs.Reads.{read_at};
 ghost use Rattle.fx_machine.specs.Explained.{IsExplained};
 ghost use Rattle.fx_turn.specs.Seats.{view};
 ghost use Rattle.fx_turn.specs.Views.{maker_of};
-ghost use Rattle.fx_shared.specs.Passes.{HasBase, HasSeenMore, AreTrueFor};
+ghost use Rattle.fx_shared.specs.Passes.{HasBase, HasSeenMore, AreTrueInLog};
 ghost use Rattle.fx_shared.specs.Shared.{IsPassOf, IsReadyPass};
 ghost use Rattle.fx_workers.specs.Live.{AreTrueOver};
-ghost use Rattle.test_passes.specs.Workings.{AddsLook, IsKnown, HasRun, HasTried, IsAt, IsFresh, HasJoined};
+ghost use Rattle.test_passes.specs.Workings.{AddsLook, IsKnown, HasRun, HasRunOrSeen, IsAt, IsFresh, HasJoined};
 
 use crate::meeting::Meeting;
 use fx_base::NoMemory;
@@ -127,7 +127,7 @@ fn attempt_over<R: Wait>(
     requires known { IsKnown (base_tree team.now.base.now.value) (shell, txn)
         (view pass.old) known.old.reads }
     ensures ready { IsReadyPass team.now.shared.now pass.new }
-    ensures tried { IfOk result (HasTried (base_tree team.now.base.now.value) shell txn
+    ensures tried { IfOk result (HasRunOrSeen (base_tree team.now.base.now.value) shell txn
         (view pass.old) (view pass.new) known.new.reads) }
 {
     match run(team.alloc, team.base, shell, txn, known) {
@@ -176,7 +176,7 @@ fn settle<R: Wait>(team: &Team<'_, R>, pass: &mut Pass, attempt: Attempt) -> Res
     requires whose { (view pass.old).number ≡ Some attempt.shell }
     requires next { attempt.txn ≡ (view pass.old).mine }
     requires explained { HasBase (view pass.old) (λ base. IsExplained base attempt) }
-    requires reads { AreTrueFor (view pass.old) attempt.reads }
+    requires reads { AreTrueInLog (view pass.old) attempt.reads }
     requires room { attempt.txn + 1 < 2 ^ 32 }
     ensures ready { IsReadyPass team.now.shared.now pass.new }
     ensures number { (view pass.new).number ≡ (view pass.old).number }

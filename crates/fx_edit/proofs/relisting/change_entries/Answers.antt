@@ -1,5 +1,5 @@
 use Rattle.std.proofs.Common.{sym, subst}
-use Rattle.fx_edit.specs.Rules.{left_of}
+use Rattle.fx_edit.specs.Rules.{names_left}
 use Rattle.fx_edit.proofs.Relists.{IsRelisting, relisting_next, relisting_stops, relisting_ends, left_after}
 use Rattle.fx_edit.proofs.relisting.change_entries.Goals as goal
 
@@ -18,7 +18,7 @@ loop-name-preserved g c =
     let b = c.loop-name.news in
     let next = relisting_next c.loop-name.invariant.0 c.in-Some.ensures.next c.in_ok-change_entry.ensures.follows in (
       subst (λ c'. IsRelisting m q old new c.args.session.now c.change_entry.new.session c.args.edits.now c.change_entry.new.edits c' c.in-Some.other_news) (sym c.in-Some.ensures.olds)
-          (subst (λ d. IsRelisting m q old new c.args.session.now c.change_entry.new.session c.args.edits.now c.change_entry.new.edits (left_of x a) d) (sym c.in-Some.ensures.news) next),
+          (subst (λ d. IsRelisting m q old new c.args.session.now c.change_entry.new.session c.args.edits.now c.change_entry.new.edits (names_left x a) d) (sym c.in-Some.ensures.news) next),
       left_after new a b c.in-Some.name.now x y c.in-Some.other_olds c.in-Some.other_news c.loop-name.invariant.1 c.in-Some.ensures,
     )
 

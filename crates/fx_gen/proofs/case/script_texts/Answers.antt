@@ -1,6 +1,6 @@
 use Rattle.std.proofs.Common.{◌≡◌, ◌+◌, ◌*◌, ◌++◌, ◌∷◌, [], ap, sym, ◌∙◌, arith}
 use Rattle.fx_gen.specs.Draws.{Drawn}
-use Rattle.fx_gen.specs.Scripts.{scripts_to, script_of, logging_of}
+use Rattle.fx_gen.specs.Scripts.{scripts_to, generated_script, logging_of}
 use Rattle.fx_gen.proofs.Ranges.{scripts_none, scripts_more, logging_none}
 use Rattle.fx_gen.proofs.case.script_texts.Goals as goal
 
@@ -25,7 +25,7 @@ loop-script-preserved c =
       texts =
           c.in_ok-add.ensures.ok
           ∙ ap (λ l. l ++ c.from_vec.result ∷ []) inv.texts
-          ∙ ap (λ t. scripts_to c.args.draws.now.number n ++ t ∷ []) (c.from_vec.ensures ∙ said.text ∙ ap (λ m. script_of m n) inv.number)
+          ∙ ap (λ t. scripts_to c.args.draws.now.number n ++ t ∷ []) (c.from_vec.ensures ∙ said.text ∙ ap (λ m. generated_script m n) inv.number)
           ∙ sym (scripts_more c.args.draws.now.number n);
       few = omega (arith, said.few);
       logging = said.logging ∙ ap (λ m. logging_of m (200 * n + 200)) inv.number ∙ ap (logging_of c.args.draws.now.number) more;

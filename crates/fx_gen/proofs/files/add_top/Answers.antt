@@ -14,7 +14,7 @@ pub returns-clause-added : goal.returns-clause-added
 returns-clause-added c =
     let chain : c.add_file.new.changes.items ≡ (c.args.changes.now.items ++ made ([], Dir c.in_ok-top_names.field-0) ∷ []) ++ made (codes "config" ∷ [], File c.in_ok-config.field-0.items false) ∷ [] =
     c.in_ok-add_file.ensures
-    ∙ ap (λ l. l ++ made (c.root-root.result ++ codes "config" ∷ [], File c.in_ok-config.field-0.items false) ∷ []) (c.in_ok-add.ensures ∙ ap (λ x. c.args.changes.now.items ++ made (x, Dir c.in_ok-top_names.field-0) ∷ []) c.root-2.ensures)
+    ∙ ap (λ l. l ++ made (c.root-root.result ++ codes "config" ∷ [], File c.in_ok-config.field-0.items false) ∷ []) (c.in_ok-add.ensures ∙ ap (λ x. c.args.changes.now.items ++ made (x, Dir c.in_ok-top_names.field-0) ∷ []) c.root.ensures)
     ∙ ap (λ x. (c.args.changes.now.items ++ made ([], Dir c.in_ok-top_names.field-0) ∷ []) ++ made (x ++ codes "config" ∷ [], File c.in_ok-config.field-0.items false) ∷ []) c.root-root.ensures
     in
     subst (λ l. OnOk c.add-2.result (c.add-2.new.changes.items ≡ l))

@@ -2,6 +2,7 @@ use Rattle.std.proofs.Common.{refl, sym, subst}
 use Rattle.fx_outside.proofs.Views.{reads_then}
 use Rattle.fx_spec.specs.Bases.{base_tree}
 use Rattle.fx_words.specs.JobOf.{asked, asked_journal}
+use Rattle.fx_durable.proofs.Choices.{unasked}
 use Rattle.fx_command.specs.StatusOf.{status_of}
 use Rattle.fx_base.proofs.Errors.{err_of}
 use Rattle.fx_inputs.proofs.Stages.{inputs_read, then_told}
@@ -24,7 +25,7 @@ returns-in_err-base-clause-row g c =
     let disk = g.D.Disk.view c.args.disk.now in
     let st = c.in_err-base.field-0.0 in
     let is = err_of c.from_residual.result st c.from_residual.ensures.1 in
-    (λ _. refl, subst (λ r. JournalEnd j a b sink sink disk disk (status_of r)) (sym is) (inputs_unread j a b sink disk st c.in_err-base.ensures.same c.in_err-base.ensures.ends))
+    (unasked j.journal disk, subst (λ r. JournalEnd j a b sink sink disk disk (status_of r)) (sym is) (inputs_unread j a b sink disk st c.in_err-base.ensures.same c.in_err-base.ensures.ends))
 
 pub returns-in_err-base-clause-keeps : goal.returns-in_err-base-clause-keeps
 returns-in_err-base-clause-keeps g c = unbegun_keeps (asked_journal c.args.job.now) (g.H.Host.view c.args.host.now) (g.S.Sink.view c.args.out.now) (g.D.Disk.view c.args.disk.now)
@@ -38,7 +39,7 @@ returns-in-Err-clause-row g c =
     let sink = g.S.Sink.view c.args.out.now in
     let disk = g.D.Disk.view c.args.disk.now in
     let inputs = inputs_read j.run.inputs (base_tree c.in_ok-base.base.value) a b c.in_ok-base.ensures.same c.in_ok-base.ensures.read in
-    (λ _. refl, end_back j a b d sink sink disk disk c.in-Err.status c.in_ok-base.ensures.same (out_unready j b d sink disk c.in-Err.status c.in-Err.ensures.same inputs c.in-Err.ensures.unready))
+    (unasked j.journal disk, end_back j a b d sink sink disk disk c.in-Err.status c.in_ok-base.ensures.same (out_unready j b d sink disk c.in-Err.status c.in-Err.ensures.same inputs c.in-Err.ensures.unready))
 
 pub returns-in-Err-clause-keeps : goal.returns-in-Err-clause-keeps
 returns-in-Err-clause-keeps g c = unbegun_keeps (asked_journal c.args.job.now) (g.H.Host.view c.args.host.now) (g.S.Sink.view c.args.out.now) (g.D.Disk.view c.args.disk.now)
@@ -59,7 +60,7 @@ returns-clause-row g c =
     let a = g.H.Host.view c.args.host.now in
     let b = g.H.Host.view c.read_base.new.host in
     let d = g.H.Host.view c.ready_out.new.host in
-    (c.keep.ensures.others, end_back (asked_journal c.args.job.now) a d (g.H.Host.view c.keep.new.host) (g.S.Sink.view c.args.out.now) (g.S.Sink.view c.keep.new.out) (g.D.Disk.view c.args.disk.now) (g.D.Disk.view c.keep.new.disk) (status_of c.keep.result) (reads_then a b d c.in_ok-base.ensures.same c.in-Ok.ensures.same) c.keep.ensures.end)
+    (c.keep.ensures.chooses, end_back (asked_journal c.args.job.now) a d (g.H.Host.view c.keep.new.host) (g.S.Sink.view c.args.out.now) (g.S.Sink.view c.keep.new.out) (g.D.Disk.view c.args.disk.now) (g.D.Disk.view c.keep.new.disk) (status_of c.keep.result) (reads_then a b d c.in_ok-base.ensures.same c.in-Ok.ensures.same) c.keep.ensures.end)
 
 pub returns-clause-keeps : goal.returns-clause-keeps
 returns-clause-keeps g c =

@@ -5,6 +5,7 @@ use Rattle.fx_spec.specs.Bases.{base_tree}
 use Rattle.fx_spec.specs.declared.base.Base.{Base}
 use Rattle.fx_words.specs.JobOf.{asked_journal}
 use Rattle.fx_command.specs.StatusOf.{status_of}
+use Rattle.fx_durable.proofs.Choices.{early_over}
 use Rattle.fx_base.proofs.Errors.{err_of}
 use Rattle.fx_journal_command.specs.Rows.{JournalEnd}
 use Rattle.fx_journal_command.proofs.Ending.{not_started, not_recorded, finished}
@@ -44,11 +45,24 @@ returns-in_err-recorded-clause-keeps g c =
     broken_keeps (asked_journal c.args.job.now) (base_tree c.args.base.value) (g.H.Host.view c.args.host.now) (g.S.Sink.view c.args.out.now) (g.S.Sink.view c.run_on.new.out) (g.D.Disk.view c.args.disk.now) (g.D.Disk.view c.start.new.disk) (g.D.Disk.view c.run_on.new.disk) c.in_err-recorded.field-0.0
     c.requires.begins c.in-Ok.ensures.empty c.in-Ok.ensures.goes_on c.in-Ok.ensures.gate c.in_err-recorded.ensures.broken
 
-pub returns-in_err-recorded-clause-others : goal.returns-in_err-recorded-clause-others
-returns-in_err-recorded-clause-others g c = λ at. c.in_err-recorded.ensures.broken.broken.others ∙ c.in-Ok.ensures.others at
+pub returns-in-Err-clause-chooses : goal.returns-in-Err-clause-chooses
+returns-in-Err-clause-chooses g c = record { others = c.in-Err.ensures.others; early = c.in-Err.ensures.early }
 
-pub returns-clause-others : goal.returns-clause-others
-returns-clause-others g c = λ at. c.in_ok-recorded.ensures.done.others ∙ c.in-Ok.ensures.others at
+pub returns-in_err-recorded-clause-chooses : goal.returns-in_err-recorded-clause-chooses
+returns-in_err-recorded-clause-chooses g c =
+    let broken = c.in_err-recorded.ensures.broken.broken in
+    record {
+      others = λ at. broken.others ∙ c.in-Ok.ensures.others at;
+      early = early_over (g.D.Disk.view c.args.disk.now) (g.D.Disk.view c.start.new.disk) (g.D.Disk.view c.run_on.new.disk) c.in-Ok.ensures.early c.in-Ok.ensures.chosen broken.asks;
+    }
+
+pub returns-clause-chooses : goal.returns-clause-chooses
+returns-clause-chooses g c =
+    let done = c.in_ok-recorded.ensures.done in
+    record {
+      others = λ at. done.others ∙ c.in-Ok.ensures.others at;
+      early = early_over (g.D.Disk.view c.args.disk.now) (g.D.Disk.view c.start.new.disk) (g.D.Disk.view c.run_on.new.disk) c.in-Ok.ensures.early c.in-Ok.ensures.chosen done.asks;
+    }
 
 pub returns-clause-end : goal.returns-clause-end
 returns-clause-end g c =

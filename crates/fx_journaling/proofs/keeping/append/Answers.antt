@@ -18,11 +18,11 @@ returns-clause-held g c = λ base order began held add.
     let v = g.D.Disk.view in
     let turn : Turn = (c.args.pair.shell, c.args.pair.txn) in
     let call = c.append.ensures in
-    held_after c.args.journal.now.count turn c.append.new.self (v c.args.disk.now) (v c.append.new.disk) base order began c.args.journal.now held refl add c.append.result call.any_moment call.added call.goes_on call.count call.good call.cause
+    held_after c.args.journal.now.count turn c.append.new.self (v c.args.disk.now) (v c.append.new.disk) base order began c.args.journal.now held refl add c.append.result call.any_moment call.added call.goes_on call.count call.good call.cause call.early
 
 pub returns-clause-lost : goal.returns-clause-lost
 returns-clause-lost g c = λ base order began held add.
     let v = g.D.Disk.view in
     let turn : Turn = (c.args.pair.shell, c.args.pair.txn) in
     let call = c.append.ensures in
-    lost_after c.args.journal.now.count turn c.append.new.self (v c.args.disk.now) (v c.append.new.disk) base order began c.args.journal.now held refl add c.append.result call.any_moment call.goes_on call.cause
+    lost_after c.args.journal.now.count turn c.append.new.self (v c.args.disk.now) (v c.append.new.disk) base order began c.args.journal.now held refl add c.append.result call.any_moment call.goes_on call.cause call.early

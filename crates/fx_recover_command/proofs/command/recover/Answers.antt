@@ -3,6 +3,7 @@ use Rattle.fx_outside.specs.Host.{HostView}
 use Rattle.fx_spec.specs.Bases.{base_tree}
 use Rattle.fx_words.specs.JobOf.{asked_recover}
 use Rattle.fx_command.specs.StatusOf.{status_of}
+use Rattle.fx_durable.proofs.Choices.{unasked}
 use Rattle.fx_base.proofs.Errors.{err_of}
 use Rattle.fx_inputs.specs.Inputs.{HasBase, IsOnlyBase}
 use Rattle.fx_inputs.proofs.Stages.{then_told}
@@ -20,7 +21,7 @@ returns-in_err-base-clause-row g c =
     let disk = g.D.Disk.view c.args.disk.now in
     let st = c.in_err-base.field-0.0 in
     let is = err_of c.from_residual.result st c.from_residual.ensures.1 in
-    (refl, λ _. refl, inl refl, subst (λ r. RecoverEnd j a b sink sink disk disk (status_of r)) (sym is) (not_read j disk disk a b st c.in_err-base.ensures.same c.in_err-base.ensures.ends sink))
+    (refl, unasked j.journal disk, inl refl, subst (λ r. RecoverEnd j a b sink sink disk disk (status_of r)) (sym is) (not_read j disk disk a b st c.in_err-base.ensures.same c.in_err-base.ensures.ends sink))
 
 pub restore-ended-requires-clause-begins : goal.restore-ended-requires-clause-begins
 restore-ended-requires-clause-begins g c =

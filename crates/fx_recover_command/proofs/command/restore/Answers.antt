@@ -22,7 +22,7 @@ returns-in_err-order-clause-row g c =
     let st = c.in_err-order.field-0.0 in
     let is = err_of c.from_residual.result st c.from_residual.ensures.1 in (
       c.in_err-order.ensures.same,
-      c.in_err-order.ensures.others,
+      record { others = c.in_err-order.ensures.others; early = c.in_err-order.ensures.early },
       subst (λ r. StaysCalm disk disk' (status_of r)) (sym is) c.in_err-order.ensures.calm_err,
       subst (λ r. RecoverEnd j host host sink sink disk disk' (status_of r)) (sym is)
           (order_unread j disk disk' host host base st (reads_none host) c.requires.begins c.requires.only (subst (λ b. OrderCause j.journal (base_tree b) disk disk' st) c.deref.ensures c.in_err-order.ensures.cause) sink),
@@ -37,7 +37,7 @@ returns-clause-row g c =
     let base = base_tree c.args.base.now.value in
     let order = turns_of c.in_ok-order.order in (
       c.in_ok-order.ensures.same,
-      c.in_ok-order.ensures.others,
+      record { others = c.in_ok-order.ensures.others; early = c.in_ok-order.ensures.early },
       inl c.in_ok-order.ensures.calm,
       c.leave.ensures.end disk disk' (has_order j base order host disk c.requires.begins c.requires.only c.in_ok-order.ensures.read (subst (λ b. IsLegal (base_tree b) order) c.deref.ensures c.in_ok-order.ensures.legal)),
     )

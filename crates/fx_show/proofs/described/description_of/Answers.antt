@@ -2,7 +2,7 @@ use Rattle.std.proofs.Common.{ap, sym, ◌∙◌}
 use Rattle.fx_spec.specs.TextViews.{written}
 use Rattle.fx_spec.specs.Written.{text_tree}
 use Rattle.fx_show.specs.Described.{IsUndescribed}
-use Rattle.fx_show.specs.Faults.{of_check}
+use Rattle.fx_show.specs.Faults.{description_of_check}
 use Rattle.fx_base.proofs.Errors.{if_err_of}
 use Rattle.fx_show.proofs.Causes.{not_checked}
 use Rattle.fx_show.proofs.described.description_of.Goals as goal
@@ -10,7 +10,7 @@ use Rattle.fx_show.proofs.described.description_of.Goals as goal
 pub returns-in_err-checked-clause-refused : goal.returns-in_err-checked-clause-refused
 returns-in_err-checked-clause-refused c =
     let fault = c.in_err-checked.field-0.0 in
-    if_err_of (IsUndescribed c.args.text.now) c.from_residual-in_err-checked.result (of_check fault) c.from_residual-in_err-checked.ensures.1
+    if_err_of (IsUndescribed c.args.text.now) c.from_residual-in_err-checked.result (description_of_check fault) c.from_residual-in_err-checked.ensures.1
     (not_checked c.args.text.now (written c.in_ok-description.description) fault c.in_ok-description.ensures.ok (λ other is. (c.in_ok-description.ensures.only other is).0) c.in_err-checked.ensures)
 
 pub returns-clause-read : goal.returns-clause-read

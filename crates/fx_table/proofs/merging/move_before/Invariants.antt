@@ -1,9 +1,9 @@
 use Rattle.std.proofs.Common.{length}
-use Rattle.fx_table.specs.Merges.{Moves}
+use Rattle.fx_table.specs.Merges.{MovesLinks}
 use Rattle.fx_table.proofs.merging.move_before.Given as goal
 
 abbrev pub invariant-moving : goal.invariant-moving
-invariant-moving l = Moves l.fn.rest.items l.rest.items l.path l.fn.all.items l.all.items
+invariant-moving l = MovesLinks l.fn.rest.items l.rest.items l.path l.fn.all.items l.all.items
 
 abbrev pub decreases-moving : goal.decreases-moving
 decreases-moving l = length l.rest.items

@@ -6,7 +6,7 @@ use Rattle.fx_spec.specs.Bases.{base_tree}
 use Rattle.fx_turn.specs.Seats.{view}
 use Rattle.fx_shared.specs.Shared.{IsReadyPass}
 use Rattle.fx_workers.specs.Crews.{base_of}
-use Rattle.fx_views.specs.Past.{AreAt, begins_to_vouch}
+use Rattle.fx_views.specs.Past.{AreAt, begins_to_vouch_at}
 use Rattle.fx_views.proofs.Pasts.{more_by, within_on}
 use Rattle.fx_views.proofs.Viewings.{view_there}
 use Rattle.fx_views.proofs.viewing.view_at.Goals as goal
@@ -14,13 +14,13 @@ use Rattle.fx_views.proofs.viewing.view_at.Goals as goal
 pub returns-in-Ok-clause-ready : goal.returns-in-Ok-clause-ready
 returns-in-Ok-clause-ready g c =
     let start = c.new-past.result in
-    let vouched = c.in-Ok.ensures.attempted.vouched start (refl, refl, refl, begins_to_vouch (view start.pass) start.position start.reads start.true_reads) in
+    let vouched = c.in-Ok.ensures.attempted.vouched start (refl, refl, refl, begins_to_vouch_at (view start.pass) start.position start.reads start.true_reads) in
     subst (λ snaps. IsReadyPass snaps c.into_pass-pass.result) (vouched.0 ∙ c.new-past.ensures.snaps) c.into_pass-pass.ensures.ready
 
 pub returns-in-Ok-clause-more : goal.returns-in-Ok-clause-more
 returns-in-Ok-clause-more g c =
     let start = c.new-past.result in
-    let vouched = c.in-Ok.ensures.attempted.vouched start (refl, refl, refl, begins_to_vouch (view start.pass) start.position start.reads start.true_reads) in
+    let vouched = c.in-Ok.ensures.attempted.vouched start (refl, refl, refl, begins_to_vouch_at (view start.pass) start.position start.reads start.true_reads) in
     more_by (view start.pass) (view c.args.pass) (view c.run-ended.new.reader.pass) (view c.into_pass-pass.result) (ap view c.new-past.ensures.pass) (sym (ap view c.into_pass-pass.ensures.pass)) vouched.3.seen
 
 pub returns-in-Ok-clause-view : goal.returns-in-Ok-clause-view
@@ -30,7 +30,7 @@ returns-in-Ok-clause-view g c =
     let back = view c.into_pass-pass.result in
     let attempted = c.in-Ok.ensures.attempted in
     let reads = c.in-Ok.attempt.reads in
-    let vouched = attempted.vouched start (refl, refl, refl, begins_to_vouch (view start.pass) start.position start.reads start.true_reads) in
+    let vouched = attempted.vouched start (refl, refl, refl, begins_to_vouch_at (view start.pass) start.position start.reads start.true_reads) in
     let last = sym (ap view c.into_pass-pass.ensures.pass) in
     let more = more_by (view start.pass) (view c.args.pass) (view now.pass) back (ap view c.new-past.ensures.pass) last vouched.3.seen in
     let stand = subst (λ p. AreAt back p reads) (vouched.1 ∙ c.new-past.ensures.position) (subst (λ v. AreAt v now.position reads) last vouched.3.stand) in

@@ -8,7 +8,7 @@ use Rattle.fx_command.specs.Saved.{SaveEnd}
 use Rattle.fx_command.specs.StatusOf.{status_of}
 use Rattle.fx_command.specs.Table.{IsComing}
 use Rattle.fx_command.proofs.Told.{if_some_map}
-use Rattle.fx_views_command.specs.Answers.{last_of}
+use Rattle.fx_views_command.specs.Answers.{last_of_views}
 use Rattle.fx_views_command.specs.Rows.{views_making}
 use Rattle.fx_views_command.proofs.Ending.{left}
 use Rattle.fx_views_command.proofs.command.leave.Goals as goal
@@ -16,7 +16,7 @@ use Rattle.fx_views_command.proofs.command.leave.Goals as goal
 pub save_and_print-requires : goal.save_and_print-requires
 save_and_print-requires g c =
     let j = asked_views c.args.job.now in
-    let end : Nodes × List ℕ = (last_of c.args.answer.now, c.args.answer.now.output) in
+    let end : Nodes × List ℕ = (last_of_views c.args.answer.now, c.args.answer.now.output) in
     if_some_map (λ t. IsComing (views_making j) t end c.args.there) (λ t. IsReady t j.out c.args.there) (g.H.Host.view c.args.host.now).told (λ t is. is.free) c.requires
 
 pub returns-clause-row : goal.returns-clause-row
@@ -27,7 +27,7 @@ returns-clause-row g c =
     let sink = g.S.Sink.view c.args.out.now in
     let sink' = g.S.Sink.view c.save_and_print.new.out in
     let st = status_of c.save_and_print.result in
-    let nodes = last_of c.args.answer.now in
+    let nodes = last_of_views c.args.answer.now in
     left j nodes c.args.answer.now.output c.args.there host host' sink sink' st c.requires
     (subst (λ n. SaveEnd j.out c.args.there n c.args.answer.now.output host host' sink sink' st) (c.store-store.ensures.nodes ∙ ap last_state c.board.ensures)
     (subst (λ b. SaveEnd j.out c.args.there c.store-store.result.now.nodes b host host' sink sink' st) c.as_slice-output.ensures c.save_and_print.ensures.end))

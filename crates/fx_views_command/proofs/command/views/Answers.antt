@@ -3,7 +3,7 @@ use Rattle.fx_outside.specs.Host.{Guard}
 use Rattle.fx_outside.proofs.Views.{reads_then, asks_both}
 use Rattle.fx_spec.specs.Bases.{base_tree}
 use Rattle.fx_words.specs.JobOf.{asked_views}
-use Rattle.fx_views_command.specs.Answers.{last_of}
+use Rattle.fx_views_command.specs.Answers.{last_of_views}
 use Rattle.fx_views_command.specs.Rows.{ViewsRow, LetsViewsRun}
 use Rattle.fx_command.specs.StatusOf.{status_of}
 use Rattle.fx_base.proofs.Errors.{err_of}
@@ -31,7 +31,7 @@ returns-in-Err-clause-row g c =
 
 pub leave-ended-requires : goal.leave-ended-requires
 leave-ended-requires g c =
-    can_leave (asked_views c.args.job.now) (base_tree c.in_ok-bases.bases.scripts.value) (base_tree c.in_ok-bases.bases.views.value) (last_of c.in_ok-answer.answer) c.in_ok-answer.answer.output c.in-Ok.there (g.H.Host.view c.args.host.now) (g.H.Host.view c.read_bases.new.host) (g.H.Host.view c.ready_out.new.host)
+    can_leave (asked_views c.args.job.now) (base_tree c.in_ok-bases.bases.scripts.value) (base_tree c.in_ok-bases.bases.views.value) (last_of_views c.in_ok-answer.answer) c.in_ok-answer.answer.output c.in-Ok.there (g.H.Host.view c.args.host.now) (g.H.Host.view c.read_bases.new.host) (g.H.Host.view c.ready_out.new.host)
     c.in_ok-bases.ensures.same c.in-Ok.ensures.same c.in_ok-bases.ensures.read c.in-Ok.ensures.ready c.in_ok-answer.ensures
 
 pub returns-clause-fit : goal.returns-clause-fit

@@ -1,6 +1,6 @@
 use Rattle.std.proofs.Common.{◌≡◌, Ok}
 use Rattle.fx_spec.specs.Describe.{arguments}
-use Rattle.fx_zip.specs.Telling.{tried}
+use Rattle.fx_zip.specs.Telling.{arguments_tried}
 use Rattle.fx_zip.proofs.Arguments.{said_all}
 use Rattle.fx_zip.proofs.Entering.{last_refused, last_err}
 use Rattle.fx_zip.proofs.moving.too_unfolded.Goals as goal
@@ -13,5 +13,5 @@ returns-in_err-try_arguments-clause-enters g c =
 pub returns-clause-enters : goal.returns-clause-enters
 returns-clause-enters g c =
     λ path params.
-    let all : tried (arguments c.args.env.now c.args.args.now) ≡ Ok tt = said_all (tried (arguments c.args.env.now c.args.args.now)) _ c.in_ok-try_arguments.ensures.faults in
+    let all : arguments_tried (arguments c.args.env.now c.args.args.now) ≡ Ok tt = said_all (arguments_tried (arguments c.args.env.now c.args.args.now)) _ c.in_ok-try_arguments.ensures.faults in
     last_refused path c.args.env.now c.args.args.now params c.args.session.now.steps c.try_arguments.new.session.steps c.in_ok-try_arguments.ensures.most all

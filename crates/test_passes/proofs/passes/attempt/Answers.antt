@@ -1,7 +1,7 @@
 use Rattle.std.proofs.Common.{Some, subst}
 use Rattle.fx_spec.specs.Bases.{base_tree}
 use Rattle.fx_turn.specs.Seats.{view}
-use Rattle.test_passes.specs.Workings.{HasTried}
+use Rattle.test_passes.specs.Workings.{HasRunOrSeen}
 use Rattle.test_passes.proofs.Attempts.{run_on}
 use Rattle.test_passes.proofs.passes.attempt.Goals as goal
 
@@ -11,4 +11,4 @@ returns-in-Some-clause-run g c =
     let here = view c.loop.pass in
     let after = view c.attempt_over.new.pass in
     run_on base c.args.shell c.args.txn (view c.args.pass.now) here after c.in-Some.attempt c.loop.invariant.seen
-    (subst (HasTried base c.args.shell c.args.txn here after c.attempt_over.new.known.reads) c.in-Some.is c.in_ok-attempt.ensures.tried)
+    (subst (HasRunOrSeen base c.args.shell c.args.txn here after c.attempt_over.new.known.reads) c.in-Some.is c.in_ok-attempt.ensures.tried)

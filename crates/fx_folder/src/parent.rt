@@ -13,7 +13,7 @@ use std::sync::Arc;
 
 /// A folder below the one that is loaded. A copy shares its path and its text, and takes no memory for them.
 #[derive(Debug, Drop)]
-pub struct Place {
+pub struct Parent {
     spelled: Arc<Spelled>,
 }
 
@@ -24,7 +24,7 @@ pub struct Spelled {
     front: String,
 }
 
-impl Model for Place {
+impl Model for Parent {
     ghost use Rattle.std.specs.Prelude.{◌≡◌, ◌++◌, ◌∷◌, [], List, ℕ, string_bytes};
     ghost use Rattle.fx_table.specs.Places.{place_of};
 
@@ -36,29 +36,29 @@ impl Model for Place {
         47 ∷ string_bytes p.spelled.value.front ≡ place_of p.spelled.value.path ++ 47 ∷ [] };
 }
 
-impl Place {
+impl Parent {
     /// The folder itself.
-    pub fn root(alloc: Global) -> Result<Place, NoMemory>
-        ensures { IfOk result (λ place. place ≡ []) }
+    pub fn root(alloc: Global) -> Result<Parent, NoMemory>
+        ensures { IfOk result (λ parent. parent ≡ []) }
     {
         let spelled = Spelled {
             path: Path::root(alloc),
             front: String::new(alloc),
         };
-        Ok(Place {
+        Ok(Parent {
             spelled: Arc::new(alloc, spelled)?,
         })
     }
 
     /// The folder at a path, whose text this is.
-    pub fn new(alloc: Global, path: &Path, text: &HostText) -> Result<Place, NoMemory>
+    pub fn new(alloc: Global, path: &Path, text: &HostText) -> Result<Parent, NoMemory>
         requires { 47 ∷ text.now ≡ place_of path.now }
-        ensures { IfOk result (λ place. place ≡ path.now) }
+        ensures { IfOk result (λ parent. parent ≡ path.now) }
     {
         let path = path.copy(alloc)?;
         let mut front = String::from_str(alloc, text.as_str())?;
         front.push('/')?;
-        Ok(Place {
+        Ok(Parent {
             spelled: Arc::new(alloc, Spelled { path, front })?,
         })
     }
@@ -87,10 +87,10 @@ impl Place {
     }
 
     /// The same folder.
-    pub fn copy(&self) -> Result<Place, NoMemory>
-        ensures { IfOk result (λ place. place ≡ self.now) }
+    pub fn copy(&self) -> Result<Parent, NoMemory>
+        ensures { IfOk result (λ parent. parent ≡ self.now) }
     {
-        Ok(Place {
+        Ok(Parent {
             spelled: self.spelled.clone()?,
         })
     }
