@@ -1,26 +1,8 @@
 -- A walk over a filestore in the order of paths: what stands at a path and below, and what each step leaves.
-use Rattle.std.proofs.Common.{◌≡◌, inl, inr, ℕ, zero, suc, ◌+◌, ◌<◌, Bool, true, false, cond, ◌||◌, T, List, [], ◌∷◌, ◌++◌, length, length-append, drop, is_some, Option, Some, None, IsSome, refl, sym, ◌∙◌, ap, subst, arith, append_assoc, append-nil}
-use Rattle.std.specs.declared.cmp.Ordering.TheVariants.{Less}
-use Rattle.std.specs.Ordering.{is_eq, is_lt, eq_by_cmp, ordering_then}
+use Rattle.fx_table.proofs.Prelude.{◌≡◌, inl, inr, ℕ, zero, suc, ◌+◌, ◌<◌, Bool, true, false, cond, ◌||◌, T, List, [], ◌∷◌, ◌++◌, length, length-append, drop, is_some, Option, Some, None, IsSome, refl, sym, ◌∙◌, ap, subst, arith, append_assoc, append-nil, Less, is_eq, is_lt, eq_by_cmp, ordering_then, AllByRecursion, filter, list_any, slice_get, IsStrictlySortedBy, entries, entries_sorted, get, get-entries, find, is_sorted, below_all, find-where_key, is_sorted-where_key, same_entries, cases_Bool, or_right, same_Some, all_both, same_front, none_of, some_of, Node, File, Dir, Link, name_cmp, path_cmp, has, Store, Nodes, IsWhole, IsNode, lists, node_at, rest_is, both, first, second, less_test, name_total, parts_total, parts_same, rest_of}
 use Rattle.std.specs.Cmp.{eq_by_cmp_equiv, tied_itself}
-use Rattle.std.specs.List.{AllByRecursion, filter, list_any, slice_get}
-use Rattle.std.specs.List.Sorted.{IsStrictlySortedBy}
 use Rattle.std.specs.Option.{option_and_then, option_or}
-use Rattle.std.specs.FinMap.{entries, entries_sorted, get, get-entries, find, is_sorted}
-use Rattle.std.specs.FinMap.Entries.{below_all, find-where_key, is_sorted-where_key, same_entries}
-use Rattle.std.proofs.lemmas.Bool.{cases_Bool, or_right}
-use Rattle.std.proofs.lemmas.Option.{same_Some}
-use Rattle.fx_base.proofs.Names.{same_front}
-use Rattle.fx_store.specs.declared.node.Node.{Node}
-use Rattle.fx_store.specs.declared.node.Node.TheVariants.{File, Dir, Link}
-use Rattle.fx_store.specs.Names.{name_cmp, path_cmp, has}
-use Rattle.fx_store.specs.Whole.{Store, Nodes, IsWhole, IsNode, lists}
-use Rattle.fx_store.proofs.Stores.{node_at}
-use Rattle.fx_store.proofs.PathLists.{rest_is}
-use Rattle.fx_outside.proofs.Sorted.{both, first, second, less_test}
-use Rattle.fx_outside.proofs.Trees.{name_total, parts_total, parts_same}
 use Rattle.fx_table.specs.declared.descent.Level.{Level}
-use Rattle.fx_table.specs.Places.{rest_of}
 use Rattle.fx_table.specs.Remaining.{from_path, from_names, names_in, left_of, IsLevel, IsNextPath, EntersDirectory, TakesPath, IsLeftBelow}
 use Rattle.fx_table.proofs.Rests.{longer, not_at}
 
@@ -48,8 +30,7 @@ sorted_append (e ∷ es) fs g h b =
 
 -- all paths are such
 abbrev AllAt : (Path → Type 0) → List Mapped → Type 0
-AllAt P [] = Unit {0}
-AllAt P (e ∷ es) = P e.0 × AllAt P es
+AllAt P es = AllByRecursion (λ (e : Mapped). P e.0) es
 
 kept_path : (p : Path → Bool) (es : List Mapped) → AllAt (λ q. p q ≡ true) (filter (λ (e : Mapped). p e.0) es)
 kept_path p [] = tt
@@ -65,8 +46,7 @@ all_below x [] h = tt
 all_below x (e ∷ es) h = both (is_lt (path_cmp x e.0)) _ (less_test _ h.0) (all_below x es h.1)
 
 all_append : (P : Path → Type 0) (es fs : List Mapped) → AllAt P es → AllAt P fs → AllAt P (es ++ fs)
-all_append P [] fs g h = h
-all_append P (e ∷ es) fs g h = (g.0, all_append P es fs g.1 h)
+all_append P es fs g h = all_both (λ (e : Mapped). P e.0) es fs g h
 
 all_map : (P Q : Path → Type 0) (es : List Mapped) → ((q : Path) → P q → Q q) → AllAt P es → AllAt Q es
 all_map P Q [] f h = tt
@@ -135,10 +115,6 @@ child_in (n ∷ ns) m r =
 
 -- below a path where nothing stands, nothing stands
 
-none_of : (o : Option Node) → is_some o ≡ false → o ≡ None
-none_of None e = refl
-none_of (Some x) e = cc
-
 none_beyond : (S : Store) → IsWhole S → (path : Path) → S path ≡ None → (r : Path) → S (path ++ r) ≡ None
 none_beyond S whole path none [] = ap S (append-nil path) ∙ none
 none_beyond S whole path none (n ∷ r) =
@@ -183,11 +159,7 @@ module _ (nodes : Nodes) (whole : IsWhole (get nodes)) (p : Path) (node : Node) 
       all ∙ sym found ∙ sym (ap (λ b. cond b (Some node) (find path_cmp q (from_names nodes p (names_in (Some node))))) apart)
 
 rest_some : (p q : Path) → is_some (rest_of p q) ≡ true → (r : Path) × (q ≡ p ++ r)
-rest_some p q e = go (rest_of p q) refl
-  where
-    go : (o : Option Path) → rest_of p q ≡ o → (r : Path) × (q ≡ p ++ r)
-    go None is = let miss : is_some (rest_of p q) ≡ false = ap is_some is in cc
-    go (Some r) is = (r, rest_is p q r is)
+rest_some p q e = let r = some_of (rest_of p q) e in (r.0, rest_is p q r.0 r.1)
 
 -- below an entry of a directory with a name that comes later
 abbrev IsUnderLater : Path → List ℕ → Path → Type 0
@@ -284,13 +256,9 @@ has_at [] i name at = cc
 has_at (m ∷ ms) zero name at = ap (λ b. b || has ms name) (ap (eq_by_cmp name_cmp name) (same_Some m name at) ∙ ap is_eq (tied_itself name_total name))
 has_at (m ∷ ms) (suc i) name at = or_right (eq_by_cmp name_cmp name m) (has ms name) (has_at ms i name at)
 
-some_node : (o : Option Node) → IsSome o → (node : Node) × (o ≡ Some node)
-some_node None is = cc
-some_node (Some node) is = (node, refl)
-
 pub stepped : (nodes : Nodes) → IsWhole (get nodes) → (old mid new : List Level) (level : Level) (path : Path) → IsNextPath level path → IsSome (get nodes path) → left_of nodes mid ≡ from_names nodes level.path (drop (suc level.next) level.names) ++ left_of nodes old → left_of nodes new ≡ from_names nodes path (names_in (get nodes path)) ++ left_of nodes mid → TakesPath nodes (left_of nodes (old ++ level ∷ [])) (left_of nodes new) (Some path)
 stepped nodes whole old mid new level path next there went entered =
-    let some = some_node (get nodes path) there in
+    let some = some_of (get nodes path) there in
     let node = some.0 in
     let here : get nodes path ≡ Some node = some.1 in
     let name = next.0 in
@@ -320,11 +288,7 @@ starts nodes whole levels left =
 -- the path of a directory's next name is mapped, so it is no longer than a path may be
 pub child_there : (nodes : Nodes) → IsWhole (get nodes) → (level : Level) (path : Path) → IsLevel nodes level → IsNextPath level path → IsSome (get nodes path)
 child_there nodes whole level path is next =
-    is_there (get nodes path) (ap (λ p. is_some (get nodes p)) next.2 ∙ whole.listed level.path next.0 ∙ ap (λ o. lists o next.0) is.directory ∙ has_at level.names level.next next.0 next.1)
-  where
-    is_there : (o : Option Node) → is_some o ≡ true → IsSome o
-    is_there None e = cc
-    is_there (Some x) e = refl
+    ap (λ p. is_some (get nodes p)) next.2 ∙ whole.listed level.path next.0 ∙ ap (λ o. lists o next.0) is.directory ∙ has_at level.names level.next next.0 next.1
 
 pub next_below : (level : Level) (path : Path) → IsNextPath level path → 0 < length path
 next_below level path next = omega (arith, ap length next.2, length-append level.path (next.0 ∷ []))

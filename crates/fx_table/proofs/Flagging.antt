@@ -1,30 +1,8 @@
 -- What the lines of a table say is set among files and directories: flags, which leave all else as it is, and links.
-use Rattle.std.proofs.Common.{◌≡◌, ℕ, zero, suc, ◌+◌, ◌<◌, Bool, true, false, cond, T, List, [], ◌∷◌, ◌++◌, map, take, drop, length, get_or, arith, Option, Some, None, is_some, IfSome, IsTrue, All, refl, sym, ◌∙◌, ap, subst}
-use Rattle.std.specs.Prelude.{unwrap_or}
-use Rattle.std.specs.declared.cmp.Ordering.TheVariants.{Less}
-use Rattle.std.specs.Ordering.{eq_by_cmp}
-use Rattle.std.specs.List.{AllByRecursion, cons_option, slice_get, slice_set}
-use Rattle.std.specs.List.Sorted.{IsStrictlySortedBy}
-use Rattle.std.specs.Map.{keys_of}
-use Rattle.std.specs.FinMap.{find, is_sorted}
-use Rattle.std.proofs.lemmas.Option.{same_Some}
-use Rattle.std.proofs.lemmas.List.Elements.{All-nil, All-cons, All-head, All-tail}
-use Rattle.std.proofs.lemmas.Bool.{or_right, or_left}
-use Rattle.fx_outside.proofs.Sorted.{strictly_sorted, sorted_test}
-use Rattle.fx_store.specs.declared.node.Node.{Node}
-use Rattle.fx_store.specs.declared.node.Node.TheVariants.{File, Dir, Link}
-use Rattle.fx_store.specs.declared.changes.Change.{Change}
-use Rattle.fx_store.specs.Changes.{change_at}
-use Rattle.fx_store.specs.Names.{path_cmp}
-use Rattle.fx_store.specs.Orders.{path_eq_same}
-use Rattle.fx_store.specs.Whole.{Store}
-use Rattle.fx_table.specs.Table.{Mark, Target, Executable, TableLine, TableLink, is_flag_mark, has_flags, is_dir, over, can_mark, has_place, links_among, link_in_line, flag_at, IsLine, IsLink, AreLinesOver}
+use Rattle.fx_table.proofs.Prelude.{◌≡◌, ℕ, zero, suc, ◌+◌, ◌<◌, Bool, true, false, cond, T, List, [], ◌∷◌, ◌++◌, map, take, drop, length, get_or, arith, Option, Some, None, is_some, IfSome, IsTrue, All, refl, sym, ◌∙◌, ap, subst, unwrap_or, Less, eq_by_cmp, AllByRecursion, cons_option, slice_get, slice_set, IsStrictlySortedBy, keys_of, find, is_sorted, same_Some, All-nil, All-cons, All-head, All-tail, or_right, or_left, strictly_sorted, sorted_test, Node, File, Dir, Link, Change, change_at, path_cmp, path_eq_same, Store, Mark, Target, Executable, TableLine, TableLink, is_flag_mark, has_flags, is_dir, can_mark, has_place, links_among, link_in_line, flag_at, IsLine, IsLink, AreLinesOver, link_change, links_in, mark_node, line_change, mark_in, lines_in, Mapped, with_flag, with_flags, with_lines, mapped_of, IsNodeBounded, IsOfBytes, AreOfBytes, IsTreeShaped, change_of, changes_of}
+use Rattle.fx_table.specs.Table.{over}
 use Rattle.fx_table.specs.Flags.{is_flagged, flagged_at, with_exec, flag_change, links_alone}
-use Rattle.fx_table.specs.Lines.{link_change, links_in, mark_node, line_change, mark_in, lines_in}
-use Rattle.fx_table.specs.Listed.{Mapped, with_flag, with_flags, with_lines}
-use Rattle.fx_table.specs.Mapped.{mapped_of}
 use Rattle.fx_table.specs.Merges.{MakeLinks, CanMerge}
-use Rattle.fx_table.specs.Shaped.{IsNodeBounded, IsOfBytes, AreOfBytes, IsTreeShaped, change_of, changes_of}
 use Rattle.fx_table.proofs.Linking.{IsLinked, CanStand, links_made, apart_from}
 use Rattle.fx_table.proofs.Mixing.{made_links}
 use Rattle.fx_table.proofs.Shapes.{found}

@@ -9,6 +9,7 @@ pub mod Making
 pub mod Mixing
 pub mod Naming
 pub mod Parents
+mod Prelude
 pub mod Reaching
 pub mod Rests
 pub mod Searching

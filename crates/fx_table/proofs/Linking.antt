@@ -1,21 +1,7 @@
 -- Links that are a table over files and directories are set among them, and the shape of a filestore stays.
-use Rattle.std.proofs.Common.{◌≡◌, inl, inr, ℕ, Bool, true, false, cond, ◌&&◌, T, List, [], ◌∷◌, ◌++◌, Option, Some, None, is_some, is_none, IsSome, IfSome, IsTrue, All, refl, sym, ◌∙◌, ap, subst}
-use Rattle.std.specs.Ordering.{eq_by_cmp}
-use Rattle.std.specs.List.{AllByRecursion}
-use Rattle.std.specs.FinMap.{put, find, is_sorted}
-use Rattle.std.specs.FinMap.Entries.{is_sorted-put, find-put}
-use Rattle.std.proofs.lemmas.Bool.{cases_Bool, false≢true}
-use Rattle.std.proofs.lemmas.List.Elements.{All-head, All-tail}
+use Rattle.fx_table.proofs.Prelude.{◌≡◌, inl, inr, ℕ, Bool, true, false, cond, ◌&&◌, T, List, [], ◌∷◌, ◌++◌, Option, Some, None, is_some, is_none, IsSome, IfSome, IsTrue, All, refl, sym, ◌∙◌, ap, subst, eq_by_cmp, AllByRecursion, put, find, is_sorted, is_sorted-put, find-put, cases_Bool, false≢true, All-head, All-tail, above_pushed, Node, Link, path_cmp, IsPath, path_total, path_eq_same, Store, TableLink, IsLink, is_dir, can_stand, Mapped, with_links}
 use Rattle.fx_base.proofs.Booleans.{second_true, first_true}
-use Rattle.fx_base.proofs.Names.{above_pushed}
-use Rattle.fx_store.specs.declared.node.Node.{Node}
-use Rattle.fx_store.specs.declared.node.Node.TheVariants.{Link}
-use Rattle.fx_store.specs.Names.{path_cmp, IsPath}
-use Rattle.fx_store.specs.Orders.{path_total, path_eq_same}
 use Rattle.fx_store.specs.Resolve.{parent}
-use Rattle.fx_store.specs.Whole.{Store}
-use Rattle.fx_table.specs.Table.{TableLink, IsLink, is_dir, can_stand}
-use Rattle.fx_table.specs.Listed.{Mapped, with_links}
 use Rattle.fx_table.proofs.Shapes.{found, IsTreeShaped, IsNodeBounded}
 
 abbrev Paths : Type 0

@@ -1,29 +1,11 @@
 -- The filestore that lists what was found.
-use Rattle.std.proofs.Common.{◌≡◌, Bool, true, false, cond, List, [], ◌∷◌, map, Option, Some, None, Result, Ok, Err, IfOk, option_map, refl, sym, ◌∙◌, ap, subst}
-use Rattle.std.specs.Prelude.{unwrap_or}
-use Rattle.std.specs.Ordering.{eq_by_cmp}
-use Rattle.std.specs.List.Sorted.{IsStrictlySortedBy}
-use Rattle.std.specs.Map.{keys_of}
-use Rattle.std.specs.FinMap.{get, from_entries, get-from_entries}
-use Rattle.std.proofs.lemmas.Bool.{false≢true}
-use Rattle.fx_outside.specs.Path.{Parts}
-use Rattle.fx_store.specs.declared.node.Node.{Node}
-use Rattle.fx_store.specs.declared.node.Node.TheVariants.{File, Dir, Link}
-use Rattle.fx_store.specs.declared.changes.Change.{Change}
-use Rattle.fx_store.specs.Names.{path_cmp}
-use Rattle.fx_store.specs.Orders.{path_total}
-use Rattle.fx_store.specs.Changes.{IsChanges, changed_paths, change_at}
+use Rattle.fx_table.proofs.Prelude.{◌≡◌, Bool, true, false, cond, List, [], ◌∷◌, map, Option, Some, None, Result, Ok, Err, IfOk, option_map, refl, sym, ◌∙◌, ap, subst, unwrap_or, eq_by_cmp, IsStrictlySortedBy, keys_of, get, from_entries, get-from_entries, false≢true, Parts, Node, File, Dir, Link, Change, path_cmp, path_total, IsChanges, changed_paths, change_at, IsWhole, over_nodes, get-over_nodes, same_nodes, IsWhole-same, Mapped, with_names, listed, mapped_of, changes_of, AreShaped, HaveNameSets, is_dir}
 use Rattle.fx_base.specs.declared.NoMemory.{NoMemory}
 use Rattle.fx_store.specs.declared.filestore.Filestore.{Filestore}
 use Rattle.fx_store.specs.Filestore.{root_only}
-use Rattle.fx_store.specs.Whole.{IsWhole, over, over_nodes}
+use Rattle.fx_store.specs.Whole.{over}
 use Rattle.fx_store.proofs.Overlays.{over-change_at}
-use Rattle.fx_store.proofs.Stores.{get-over_nodes, same_nodes, IsWhole-same}
 use Rattle.fx_store.proofs.WholeStores.{bare, get-root_only}
-use Rattle.fx_table.specs.Listed.{Mapped, with_names, listed}
-use Rattle.fx_table.specs.Mapped.{mapped_of}
-use Rattle.fx_table.specs.Shaped.{changes_of, AreShaped, HaveNameSets}
-use Rattle.fx_table.specs.Table.{is_dir}
 use Rattle.fx_table.proofs.Shapes.{found, listed_whole, find_listed, relisted, is_set}
 use Rattle.fx_table.proofs.Naming.{same_key}
 

@@ -1,25 +1,8 @@
 -- Links are set among files and directories, one path after another.
-use Rattle.std.proofs.Common.{◌≡◌, ℕ, Bool, true, false, cond, List, [], ◌∷◌, ◌++◌, map, reverse, length, Some, None, refl, sym, ◌∙◌, ap, subst, append_assoc, append-nil, arith}
+use Rattle.fx_table.proofs.Prelude.{◌≡◌, ℕ, Bool, true, false, cond, List, [], ◌∷◌, ◌++◌, map, reverse, length, Some, None, refl, sym, ◌∙◌, ap, subst, append_assoc, append-nil, arith, Less, Equal, Greater, is_eq, is_lt, eq_by_cmp, ordering_reverse, AllByRecursion, IsStrictlySortedBy, find, put, by_order, false≢true, map-append, reverse-append, all_front, all_end, all_both, greater_from_less, Link, Change, path_cmp, path_total, Mapped, with_links, link_change, link_in, links_in, mapped_of, node_or_dir, change_of, changes_of, TableLink}
 use Rattle.std.specs.declared.cmp.Ordering.{Ordering}
-use Rattle.std.specs.declared.cmp.Ordering.TheVariants.{Less, Equal, Greater}
-use Rattle.std.specs.Ordering.{is_eq, is_lt, eq_by_cmp}
-use Rattle.std.specs.List.{AllByRecursion}
-use Rattle.std.specs.List.Sorted.{IsStrictlySortedBy}
-use Rattle.std.specs.FinMap.{find, put}
-use Rattle.std.specs.FinMap.Entries.{by_order}
-use Rattle.std.proofs.lemmas.List.{reverse-append}
-use Rattle.fx_base.proofs.Lists.{all_front, all_end, all_both}
-use Rattle.fx_outside.proofs.Sorted.{greater_from_less}
-use Rattle.fx_store.specs.declared.node.Node.TheVariants.{Link}
-use Rattle.fx_store.specs.declared.changes.Change.{Change}
-use Rattle.fx_store.specs.Names.{path_cmp}
-use Rattle.fx_store.specs.Orders.{path_total}
-use Rattle.fx_table.specs.Listed.{Mapped, with_links}
-use Rattle.fx_table.specs.Lines.{link_change, link_in, links_in}
-use Rattle.fx_table.specs.Mapped.{mapped_of, node_or_dir}
+use Rattle.fx_base.proofs.Orders.{is_less}
 use Rattle.fx_table.specs.Merges.{pending, MakesLink, MakeLinks, CanMerge, MovesLinks, StopsAt, MovesAll}
-use Rattle.fx_table.specs.Shaped.{change_of, changes_of}
-use Rattle.fx_table.specs.Table.{TableLink}
 
 abbrev Paths : Type 0
 Paths = List (List ℕ)
@@ -64,10 +47,6 @@ changes_entries : (ls : List TableLink) → changes_of (map entry ls) ≡ map li
 changes_entries [] = refl
 changes_entries (l ∷ ls) = ap (λ cs. link_change l ∷ cs) (changes_entries ls)
 
-changes_append : (es fs : List Mapped) → changes_of (es ++ fs) ≡ changes_of es ++ changes_of fs
-changes_append [] fs = refl
-changes_append (e ∷ es) fs = ap (λ cs. change_of e ∷ cs) (changes_append es fs)
-
 -- ---- links that are pending
 
 pending_push : (cs : List Change) (c : Change) → pending (cs ++ c ∷ []) ≡ link_in c ∷ pending cs
@@ -88,10 +67,6 @@ made_reversed cs new is made = subst MakeLinks (sym is) (go cs made)
 pub moves_none : (rest : List Change) (path : Paths) (all : List Change) → MakeLinks rest → MovesLinks rest rest path all all
 moves_none rest path all made = record { taken = []; pend = refl; moved = sym (append-nil all); before = tt; made = made }
 
-map_push : (ls : List TableLink) (l : TableLink) → map link_change (ls ++ l ∷ []) ≡ map link_change ls ++ link_change l ∷ []
-map_push [] l = refl
-map_push (k ∷ ls) l = ap (λ cs. link_change k ∷ cs) (map_push ls l)
-
 -- one link more is moved
 pub moves_more : (old now new : List Change) (path : Paths) (all mid end : List Change) (c : Change) → MovesLinks old now path all mid → now ≡ new ++ c ∷ [] → path_cmp c.path path ≡ Less → end ≡ mid ++ c ∷ [] → MovesLinks old new path all end
 moves_more old now new path all mid end c moves last less more =
@@ -99,18 +74,16 @@ moves_more old now new path all mid end c moves last less more =
     record {
       taken = moves.taken ++ link_in c ∷ [];
       pend = moves.pend ∙ (ap (λ l. moves.taken ++ pending l) last ∙ (ap (λ l. moves.taken ++ l) (pending_push new c) ∙ sym (append_assoc moves.taken (link_in c ∷ []) (pending new))));
-      moved = more ∙ (ap (λ l. l ++ c ∷ []) moves.moved ∙ (append_assoc all (map link_change moves.taken) (c ∷ []) ∙ (ap (λ d. all ++ (map link_change moves.taken ++ d ∷ [])) (all_end MakesLink new (c ∷ []) made).0 ∙ ap (λ l. all ++ l) (sym (map_push moves.taken (link_in c))))));
+      moved = more ∙ (ap (λ l. l ++ c ∷ []) moves.moved ∙ (append_assoc all (map link_change moves.taken) (c ∷ []) ∙ (ap (λ d. all ++ (map link_change moves.taken ++ d ∷ [])) (all_end MakesLink new (c ∷ []) made).0 ∙ ap (λ l. all ++ l) (sym (map-append link_change moves.taken (link_in c ∷ []))))));
       before = all_both (λ (l : TableLink). path_cmp l.path path ≡ Less) moves.taken (link_in c ∷ []) moves.before (less, tt);
       made = all_front MakesLink new (c ∷ []) made;
     }
 
 not_less : (o : Ordering) (b : Bool) → b ≡ is_lt o → b ≡ false → o ≡ Less → ⊥
-not_less o b is fails less = let wrong : false ≡ true = sym fails ∙ (is ∙ ap is_lt less) in cc
+not_less o b is fails less = false≢true (sym fails ∙ (is ∙ ap is_lt less))
 
 pub less_is : (o : Ordering) (b : Bool) → b ≡ is_lt o → b ≡ true → o ≡ Less
-less_is Less b is holds = refl
-less_is Equal b is holds = let wrong : true ≡ false = sym holds ∙ is in cc
-less_is Greater b is holds = let wrong : true ≡ false = sym holds ∙ is in cc
+less_is o b is holds = is_less o (sym is ∙ holds)
 
 -- the next one is not before the path
 pub moves_stop : (old now new kept : List Change) (path : Paths) (all mid : List Change) (c : Change) (o : Ordering) (b : Bool) → MovesLinks old now path all mid → now ≡ new ++ c ∷ [] → kept ≡ new ++ c ∷ [] → o ≡ path_cmp c.path path → b ≡ is_lt o → b ≡ false → MovesAll old kept path all mid
@@ -164,12 +137,7 @@ apart_head : (l : TableLink) (e : Mapped) (es : List Mapped) → find path_cmp l
 apart_head l e es none tied = let wrong : Some e.1 ≡ None = ap (λ o. cond (is_eq o) (Some e.1) (find path_cmp l.path es)) (sym tied) ∙ none in cc
 
 greater_is : (p q : Paths) → path_cmp p q ≡ Greater → path_cmp q p ≡ Less
-greater_is p q e = path_total.antisymm q p ∙ ap reversed e
-  where
-    reversed : Ordering → Ordering
-    reversed Less = Greater
-    reversed Equal = Equal
-    reversed Greater = Less
+greater_is p q e = path_total.antisymm q p ∙ ap ordering_reverse e
 
 above_all : (p : Paths) (l : TableLink) (ls : List TableLink) → path_cmp p l.path ≡ Less → AllAbove l.path ls → AllAbove p ls
 above_all p l [] less all = tt
@@ -210,7 +178,7 @@ merging_more found links yielded rest rest' all mid end c merging moves is left 
       whole =
           was.whole
           ∙ (ap (λ l. all ++ changes_of l) split
-          ∙ (ap (λ l. all ++ l) (changes_append (map entry m.taken) (e ∷ with_links F (pending rest')))
+          ∙ (ap (λ l. all ++ l) (map-append change_of (map entry m.taken) (e ∷ with_links F (pending rest')))
           ∙ (ap (λ l. all ++ (l ++ change_of e ∷ changes_of (with_links F (pending rest')))) (changes_entries m.taken)
           ∙ (sym (append_assoc all (map link_change m.taken) (change_of e ∷ changes_of (with_links F (pending rest'))))
           ∙ (ap (λ l. l ++ change_of e ∷ changes_of (with_links F (pending rest'))) (sym m.moved)

@@ -1,20 +1,5 @@
 -- One directory after another lists the names that stand in it.
-use Rattle.std.proofs.Common.{◌≡◌, ℕ, zero, suc, ◌+◌, ◌<◌, ◌≤◌, true, false, List, [], ◌∷◌, ◌++◌, map, length, take, drop, set, get_or, Option, Some, option_map, refl, sym, ◌∙◌, ap, subst, arith}
-use Rattle.std.specs.List.{filter_map, cons_option, slice_get}
-use Rattle.std.specs.List.Sorted.{IsStrictlySortedBy}
-use Rattle.std.specs.Map.{keys_of}
-use Rattle.std.proofs.lemmas.Bool.{false≢true}
-use Rattle.std.proofs.lemmas.Option.{same_Some}
-use Rattle.fx_base.proofs.Lists.{length_keys, some_at, at_index}
-use Rattle.fx_outside.specs.Path.{Parts, name_in}
-use Rattle.fx_store.specs.declared.node.Node.{Node}
-use Rattle.fx_store.specs.declared.node.Node.TheVariants.{File, Dir, Link}
-use Rattle.fx_store.specs.declared.changes.Change.{Change}
-use Rattle.fx_store.specs.Names.{path_cmp, IsNameSet}
-use Rattle.fx_table.specs.Table.{is_dir}
-use Rattle.fx_table.specs.Listed.{Mapped, names_below, with_names}
-use Rattle.fx_table.specs.Mapped.{mapped_of}
-use Rattle.fx_table.specs.Shaped.{HaveNameSets, ListsAt, change_of, changes_of}
+use Rattle.fx_table.proofs.Prelude.{◌≡◌, ℕ, zero, suc, ◌+◌, ◌<◌, true, false, List, [], ◌∷◌, ◌++◌, map, length, take, drop, set, get_or, Option, Some, option_map, refl, sym, ◌∙◌, ap, subst, arith, filter_map, cons_option, slice_get, IsStrictlySortedBy, keys_of, false≢true, same_Some, length_keys, some_at, at_index, Parts, name_in, Node, File, Dir, Link, Change, path_cmp, IsNameSet, is_dir, Mapped, names_below, with_names, mapped_of, HaveNameSets, ListsAt, change_of, changes_of}
 
 -- of the nodes, so many directories list their names
 abbrev pub part_listed : List Mapped → ℕ → List Change
@@ -93,12 +78,6 @@ part_more es i old new lt is lists =
     ∙ (ap (λ l. set l i (change_of (with_names (mapped_of l) e.0))) is
     ∙ (ap (λ m. set (part_listed es i) i (change_of m)) (same_with (mapped_of (part_listed es i)) es e.0 (part_keys es i))
     ∙ mixed_set es es i e.0 e.1))
-
-all_taken : {A : Type 0} (n : ℕ) (xs : List A) → length xs ≤ n → (take n xs ≡ xs) × (drop n xs ≡ [])
-all_taken zero [] le = (refl, refl)
-all_taken (suc n) [] le = (refl, refl)
-all_taken zero (x ∷ xs) le = absurd (omega arith)
-all_taken (suc n) (x ∷ xs) le = let rest = all_taken n xs (omega arith) in (ap (λ l. x ∷ l) rest.0, rest.1)
 
 -- ---- at one index
 

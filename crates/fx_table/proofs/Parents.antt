@@ -1,31 +1,11 @@
 -- The names that stand directly below each of some paths, as one path more is come to.
-use Rattle.std.proofs.Common.{◌≡◌, ℕ, zero, suc, ◌+◌, ◌-◌, ◌<◌, ◌≤◌, Bool, true, false, cond, List, [], ◌∷◌, ◌++◌, map, take, drop, length, set, get_or, Option, Some, None, option_map, is_some, refl, sym, ◌∙◌, ap, subst, arith, append-nil, length-append, replicate, inl, inr, Vec}
-use Rattle.std.specs.declared.cmp.Ordering.TheVariants.{Less}
-use Rattle.std.specs.List.{AllByRecursion, cons_option, slice_get}
-use Rattle.std.specs.List.Sorted.{IsStrictlySortedBy}
-use Rattle.std.specs.Ordering.{eq_by_cmp}
+use Rattle.fx_table.proofs.Prelude.{◌≡◌, ℕ, zero, suc, ◌+◌, ◌-◌, ◌<◌, ◌≤◌, Bool, true, false, cond, List, [], ◌∷◌, ◌++◌, map, take, drop, length, set, get_or, Option, Some, None, option_map, is_some, refl, sym, ◌∙◌, ap, subst, arith, append-nil, length-append, replicate, inl, inr, Vec, Less, AllByRecursion, cons_option, slice_get, IsStrictlySortedBy, eq_by_cmp, take_all, length-map, map-set, get_or-map, drop-map, drop-drop, All-from_recursion, slice_get_within, slice_get-map, same_Some, cases_lt, keys_of, All-at, length_keys, some_at, not_before_itself, none_of, some_of, Parts, above, name_in, name_in_folder, name_cmp, path_cmp, Change, mapped_of, Mapped, names_below, rest_of}
 use Rattle.std.specs.Cmp.Lexicographic.{pointwise}
-use Rattle.std.proofs.lemmas.List.{take_all, length-map, map-set, get_or-map}
-use Rattle.std.proofs.lemmas.Option.{slice_get_within, slice_get-map, same_Some}
-use Rattle.std.proofs.lemmas.Bool.{cases_lt}
 use Rattle.std.proofs.Math.Seq.{take-append_seam}
 use mathlib.Core.Path.{fun_ext}
-use Rattle.std.specs.Map.{keys_of}
-use Rattle.fx_base.proofs.Names.{not_before_itself}
-use Rattle.fx_outside.specs.Path.{Parts, above, name_in}
-use Rattle.fx_outside.proofs.Trees.{name_in_folder}
-use Rattle.fx_store.specs.Names.{name_cmp, path_cmp}
-use Rattle.fx_store.specs.declared.changes.Change.{Change}
-use Rattle.fx_table.specs.Mapped.{mapped_of}
-use Rattle.fx_table.specs.Listed.{Mapped, names_below}
 use Rattle.fx_table.specs.Lists.{items_of, HasNoFolder, IsFolderAt, IsAddedAt, HasChildAdded}
-use Rattle.fx_table.specs.Places.{rest_of}
 use Rattle.fx_table.proofs.Behind.{named_child, none_named}
-use Rattle.fx_table.proofs.Naming.{part_listed, part_keys, same_names}
-
-none_of : (o : Option (List ℕ)) → is_some o ≡ false → o ≡ None
-none_of None e = refl
-none_of (Some n) e = absurd (cc)
+use Rattle.fx_table.proofs.Naming.{mapped_len, part_listed, part_keys, same_names}
 
 -- a path stands directly in one directory alone
 one_folder : (p r q : Parts) (m n : List ℕ) → name_in p q ≡ Some m → name_in r q ≡ Some n → p ≡ r
@@ -35,9 +15,7 @@ one_folder p r q m n a b =
     sym (take-append_seam p (m ∷ [])) ∙ (λ i. take (long i) (e i)) ∙ take-append_seam r (n ∷ [])
 
 less_at : (ks : List Parts) (j : ℕ) (r q : Parts) → AllByRecursion (λ k. path_cmp q k ≡ Less) ks → slice_get ks j ≡ Some r → path_cmp q r ≡ Less
-less_at [] j r q all is = cc
-less_at (k ∷ ks) zero r q all is = let same : k ≡ r = cc in subst (λ x. path_cmp q x ≡ Less) same all.0
-less_at (k ∷ ks) (suc j) r q all is = less_at ks j r q all.1 is
+less_at ks j r q all is = All-at (λ k. path_cmp q k ≡ Less) ks j r (All-from_recursion (λ k. path_cmp q k ≡ Less) ks all) is
 
 module _ (f : Parts → List (List ℕ)) (q : Parts) where
   abbrev more : Parts → List (List ℕ)
@@ -90,13 +68,9 @@ last_name : (b : Bool) (o : Option (List ℕ)) (n : List ℕ) → cond b o None 
 last_name true o n e = e
 last_name false o n e = absurd (cc)
 
-some_name : (o : Option (List ℕ)) → is_some o ≡ true → (n : List ℕ) × (o ≡ Some n)
-some_name None e = absurd (cc)
-some_name (Some n) e = (n, refl)
-
 pub child_long : (dirs : List Parts) (i : ℕ) (q : Parts) → IsFolderAt dirs i q → 0 < length q
 child_long dirs i q at =
-    let n = some_name (name_in at.dir q) at.child in
+    let n = some_of (name_in at.dir q) at.child in
     omega (arith, ap length (name_in_folder at.dir q n.0 n.1), length-append at.dir (n.0 ∷ []))
 
 pub lists_more : (es : List Mapped) (j : ℕ) (q : Parts) (old new : List (List (List ℕ))) → slice_get (keys_of es) j ≡ Some q → HasChildAdded (keys_of es) q old new → old ≡ map (names_below (take j es)) (keys_of es) → new ≡ map (names_below (take (j + 1) es)) (keys_of es)
@@ -105,7 +79,7 @@ lists_more es j q old new key added so =
 
 pub child_added : (dirs : List Parts) (q : Parts) (old new : List (List (List ℕ))) (i : ℕ) → IsStrictlySortedBy path_cmp dirs → IsFolderAt dirs i q → IsAddedAt i q old new → HasChildAdded dirs q old new
 child_added dirs q old new i up at added f so =
-    let n = some_name (name_in at.dir q) at.child in
+    let n = some_of (name_in at.dir q) at.child in
     added n.0 (last_name (pointwise (eq_by_cmp name_cmp) (above q) at.dir) (slice_get q (length q - 1)) n.0 n.1)
     ∙ (ap (λ l. set l i (get_or l i [] ++ n.0 ∷ [])) so
     ∙ sym (one_more f q dirs i at.dir n.0 up at.here n.1))
@@ -121,8 +95,7 @@ lists_none found n lists e so = so ∙ (ap (λ k. replicate k []) e ∙ each fou
     each (c ∷ cs) = ap (λ l. [] ∷ l) (each cs)
 
 keys_len : (found : List Change) → length (keys_of (mapped_of found)) ≡ length found
-keys_len [] = refl
-keys_len (c ∷ found) = ap suc (keys_len found)
+keys_len found = length_keys (mapped_of found) ∙ mapped_len found
 
 pub folder_within : (found : List Change) (i : ℕ) (q : Parts) → IsFolderAt (keys_of (mapped_of found)) i q → i < length found
 folder_within found i q at = omega (arith, keys_len found, slice_get_within (keys_of (mapped_of found)) i at.dir at.here)
@@ -145,23 +118,11 @@ pub test_all : (found : List Change) (q : Parts) (i : ℕ) → length found ≤ 
 test_all found q i past so k dir at = so k dir (omega (arith, keys_len found, slice_get_within (keys_of (mapped_of found)) k dir at)) at
 
 -- a path with one name more than a directory stands directly in it, or is not below it
-last_at : (q : Parts) → 0 < length q → (n : List ℕ) × (slice_get q (length q - 1) ≡ Some n)
-last_at q some = (get_or q (length q - 1) [], some_within q (length q - 1) [] (omega arith))
-  where
-    some_within : (xs : Parts) (i : ℕ) (d : List ℕ) → i < length xs → slice_get xs i ≡ Some (get_or xs i d)
-    some_within [] i d h = absurd (omega arith)
-    some_within (x ∷ xs) zero d h = refl
-    some_within (x ∷ xs) (suc i) d h = some_within xs i d (omega arith)
-
-no_rest : (o : Option Parts) → is_some o ≡ false → o ≡ None
-no_rest None e = refl
-no_rest (Some r) e = absurd (cc)
-
 pub child_test : (p q : Parts) (b : Bool) → length q ≡ length p + 1 → b ≡ is_some (rest_of p q) → b ≡ is_some (name_in p q)
 child_test p q true long is =
-    let last = last_at q (omega arith) in
-    sym (ap is_some (named_child p q last.0 (sym is) long (sym last.1 ∙ ap (slice_get q) (omega arith))))
-child_test p q false long is = sym (ap is_some (none_named p q (no_rest (rest_of p q) (sym is))))
+    let last = some_at q (length p) (omega (arith, long)) in
+    sym (ap is_some (named_child p q last.0 (sym is) long (sym last.1)))
+child_test p q false long is = sym (ap is_some (none_named p q (none_of (rest_of p q) (sym is))))
 
 pub lists_all : (es : List Mapped) (j : ℕ) (lists : List (List (List ℕ))) → length es ≤ j → lists ≡ map (names_below (take j es)) (keys_of es) → lists ≡ map (names_below es) (keys_of es)
 lists_all es j lists past so = so ∙ ap (λ l. map (names_below l) (keys_of es)) (take_all j es past)
@@ -179,17 +140,6 @@ get_drop [] (suc i) = refl
 get_drop (x ∷ xs) zero = refl
 get_drop (x ∷ xs) (suc i) = get_drop xs i
 
-drop_after : {A : Type 0} (xs : List A) (i : ℕ) → drop (i + 1) xs ≡ drop 1 (drop i xs)
-drop_after [] zero = refl
-drop_after [] (suc i) = let one : suc i + 1 ≡ suc (i + 1) = omega arith in ap (λ n. drop n []) one
-drop_after (x ∷ xs) zero = refl
-drop_after (x ∷ xs) (suc i) = let one : suc i + 1 ≡ suc (i + 1) = omega arith in ap (λ n. drop n (x ∷ xs)) one ∙ drop_after xs i
-
-drop_map : {A B : Type 0} (f : A → B) (n : ℕ) (xs : List A) → drop n (map f xs) ≡ map f (drop n xs)
-drop_map f zero xs = refl
-drop_map f (suc n) [] = refl
-drop_map f (suc n) (x ∷ xs) = drop_map f n xs
-
 pub list_here : (es : List Mapped) (found : List Change) (i : ℕ) (lists : List (List (List ℕ))) (names : List (List ℕ)) (p : Parts) → found ≡ part_listed es i → drop i lists ≡ drop i (map (names_below es) (keys_of es)) → slice_get lists i ≡ Some names → slice_get (keys_of (mapped_of found)) i ≡ Some p → names ≡ names_below (mapped_of found) p
 list_here es found i lists names p is left out here =
     let keys : keys_of (mapped_of found) ≡ keys_of es = ap (λ f. keys_of (mapped_of f)) is ∙ part_keys es i in
@@ -200,4 +150,4 @@ list_here es found i lists names p is left out here =
 
 pub rest_left : {X : Type 0} (f : X → List (List ℕ)) (old new : List X) (full : List (List (List ℕ))) (i : ℕ) → drop (i + 1) new ≡ drop (i + 1) old → drop i (map f old) ≡ drop i full → drop (i + 1) (map f new) ≡ drop (i + 1) full
 rest_left f old new full i rest left =
-    drop_map f (i + 1) new ∙ ap (map f) rest ∙ sym (drop_map f (i + 1) old) ∙ drop_after (map f old) i ∙ ap (drop 1) left ∙ sym (drop_after full i)
+    drop-map f (i + 1) new ∙ ap (map f) rest ∙ sym (drop-map f (i + 1) old) ∙ sym (drop-drop 1 i (map f old)) ∙ ap (drop 1) left ∙ drop-drop 1 i full

@@ -1,46 +1,20 @@
 -- Changes that make the links of a table among what a filestore holds.
-use Rattle.std.proofs.Common.{◌≡◌, ◌⊎◌, inl, inr, ℕ, zero, suc, ◌+◌, ◌≤◌, drop, Bool, true, false, cond, ◌||◌, List, [], ◌∷◌, ◌++◌, map, length, Option, Some, None, IfSome, option_map, refl, sym, ◌∙◌, ap, subst, arith, length-append}
-use Rattle.std.specs.Prelude.{nat_lt, unwrap_or, codes, ◌/◌, ◌%◌}
+use Rattle.fx_table.proofs.Prelude.{◌≡◌, ◌⊎◌, inl, inr, ℕ, ◌+◌, ◌<◌, ◌≤◌, drop, Bool, true, false, cond, ◌||◌, List, [], ◌∷◌, ◌++◌, map, length, Option, Some, None, IfSome, option_map, refl, sym, ◌∙◌, ap, subst, arith, length-append, length-drop, nat_lt, unwrap_or, codes, ◌/◌, ◌%◌, Less, Equal, Greater, eq_by_cmp, AllByRecursion, cons_option, IsStrictlySortedBy, keys_of, get, find, put, entries, entries_sorted, get-entries, get-from_entries, by_order, nat_tests, filter_map-append, same_Some, Parts, strictly_sorted, Node, File, Dir, Link, Change, IsChanges, changed_paths, change_at, path_cmp, path_text, IsNameSet, path_total, path_eq_same, Nodes, IsWhole, IsNode, lists, over_nodes, get-over_nodes, same_nodes, Mapped, listed, with_links, with_flags, with_lines, IsOfBytes, AreOfBytes, IsNodeBounded, IsTreeShaped, changes_of, HaveNameSets, lines_in, AreLines, link_bytes, ReadsAll, LinesCause, mapped_of, Mark, Target, Executable, TableLine, TableLink, is_dir, mark_text, line_of, lines_text, links_among, link_in_line, flag_at, is_second, body_of, read_table, is_plain_byte, spelled, spelling}
 use Rattle.std.specs.Fmt.{digit_glyph}
 use Rattle.std.proofs.lemmas.List.Sums.{sum_by-cons}
 use Rattle.std.specs.declared.cmp.Ordering.{Ordering}
-use Rattle.std.specs.declared.cmp.Ordering.TheVariants.{Less, Equal, Greater}
-use Rattle.std.specs.Ordering.{eq_by_cmp}
-use Rattle.std.specs.List.{AllByRecursion, cons_option}
-use Rattle.std.specs.List.Sorted.{IsStrictlySortedBy}
-use Rattle.std.specs.Map.{keys_of}
-use Rattle.std.specs.FinMap.{get, find, put, entries, entries_sorted, get-entries, get-from_entries}
-use Rattle.std.specs.FinMap.Entries.{by_order}
-use Rattle.std.proofs.lemmas.Bool.{false≢true}
-use Rattle.std.proofs.lemmas.Bool.Decides.{nat_tests}
-use Rattle.std.proofs.lemmas.List.Elements.{filter_map-append}
-use Rattle.std.proofs.lemmas.Option.{same_Some}
-use Rattle.fx_outside.specs.Path.{Parts}
-use Rattle.fx_outside.proofs.Sorted.{strictly_sorted}
-use Rattle.fx_store.specs.declared.node.Node.{Node}
-use Rattle.fx_store.specs.declared.node.Node.TheVariants.{File, Dir, Link}
-use Rattle.fx_store.specs.declared.changes.Change.{Change}
-use Rattle.fx_store.specs.Changes.{IsChanges, changed_paths, change_at}
-use Rattle.fx_store.specs.Names.{path_cmp, path_text, IsNameSet}
-use Rattle.fx_store.specs.Orders.{path_total, path_eq_same}
-use Rattle.fx_store.specs.Whole.{Nodes, IsWhole, IsNode, lists, over, over_nodes}
+use Rattle.fx_store.specs.Whole.{over}
 use Rattle.fx_store.proofs.Overlays.{over-change_at, none_above}
-use Rattle.fx_store.proofs.Stores.{get-over_nodes, same_nodes}
 use Rattle.fx_table.specs.declared.fault.FolderCause.TheVariants.{BadName, Strange, TooLarge, BadTable}
 use Rattle.fx_table.specs.declared.fault.LoadFault.{LoadFault}
 use Rattle.fx_table.specs.declared.fault.LoadFault.TheVariants.{Refused, ReadFault, NoMemory}
 use Rattle.fx_table.specs.declared.lines.Room.{Room}
 use Rattle.fx_table.specs.declared.descent.Level.{Level}
 use Rattle.fx_table.specs.Flags.{with_exec}
-use Rattle.fx_table.specs.Listed.{Mapped, listed, with_links, with_flags, with_lines}
-use Rattle.fx_table.specs.Shaped.{IsOfBytes, AreOfBytes, IsNodeBounded, IsTreeShaped, changes_of, HaveNameSets}
-use Rattle.fx_table.specs.Lines.{lines_in, AreLines, link_bytes, ReadsAll, LinesCause}
 use Rattle.fx_table.specs.Linked.{linked_nodes, MakesTable, TableCause, emptied_node, bare, differs, changed_flag, kept_change, kept_of, Keeps}
-use Rattle.fx_table.specs.Mapped.{mapped_of}
 use Rattle.fx_table.specs.Merges.{CanMerge}
 use Rattle.fx_table.specs.Remaining.{left_of, AreLevels}
-use Rattle.fx_table.specs.Table.{Mark, Target, Executable, TableLine, TableLink, over as setting, is_dir, line_of, lines_text, links_among, link_in_line, flag_at, is_second, body_of, read_table}
-use Rattle.fx_table.specs.TableSpelling.{is_plain_byte, spelled, spelling}
+use Rattle.fx_table.specs.Table.{over as setting}
 use Rattle.fx_table.proofs.Bodies.{bad_read}
 use Rattle.fx_table.proofs.Flagging.{find_flags, keys_flags, bytes_flags, lines_made, lines_merge}
 use Rattle.fx_table.proofs.Linking.{IsLinked, find_linked}
@@ -353,46 +327,31 @@ spelling_long : (bs : List ℕ) → length bs ≤ length (spelling bs)
 spelling_long [] = omega arith
 spelling_long (b ∷ bs) = omega (arith, length-append (spelled b) (spelling bs), spelled_some b, spelling_long bs)
 
-line_long : (p : Parts) (mark : Mark) → link_bytes (cons_option (link_in_line p mark) []) ≤ length (line_of (record { path = p; mark = mark }))
-line_long p (Target text) =
-    omega (arith, length-append (spelling (path_text p)) (codes " -> " ++ spelling text), length-append (codes " -> ") (spelling text), spelling_long text)
-line_long p Executable = omega arith
+-- a text has room for as many links as it has bytes, and for what their texts hold
+record HasRoom (n : ℕ) (links : List TableLink) : Type 0 where
+  count : length links ≤ n
+  texts : link_bytes links ≤ n
 
-one_long : (p : Parts) (mark : Mark) → length (cons_option (link_in_line p mark) []) ≤ 1
-one_long p (Target text) = omega arith
-one_long p Executable = omega arith
-
-first_texts : (p : Parts) (mark : Mark) (ks : List TableLink) → link_bytes (cons_option (link_in_line p mark) ks) ≡ link_bytes (cons_option (link_in_line p mark) []) + link_bytes ks
-first_texts p (Target text) ks = omega (arith, sum_by-cons (λ (k : TableLink). length k.text) (record { path = p; text = text }) ks, sum_by-cons (λ (k : TableLink). length k.text) (record { path = p; text = text }) [])
-first_texts p Executable ks = omega arith
-
-first_count : (p : Parts) (mark : Mark) (ks : List TableLink) → length (cons_option (link_in_line p mark) ks) ≡ length (cons_option (link_in_line p mark) []) + length ks
-first_count p (Target text) ks = omega arith
-first_count p Executable ks = omega arith
-
-texts_long : (ls : List TableLine) → link_bytes (links_among ls) ≤ length (lines_text ls)
-texts_long [] = omega arith
-texts_long (l ∷ ls) =
-    omega (arith, first_texts l.path l.mark (links_among ls), length-append (line_of l ++ 10 ∷ []) (lines_text ls), length-append (line_of l) (10 ∷ []), line_long l.path l.mark, texts_long ls)
-
-count_long : (ls : List TableLine) → length (links_among ls) ≤ length (lines_text ls)
-count_long [] = omega arith
-count_long (l ∷ ls) = omega (arith, first_count l.path l.mark (links_among ls), one_long l.path l.mark, length-append (line_of l ++ 10 ∷ []) (lines_text ls), length-append (line_of l) (10 ∷ []), count_long ls)
+lines_room : (ls : List TableLine) → HasRoom (length (lines_text ls)) (links_among ls)
+lines_room [] = record { count = omega arith; texts = omega arith }
+lines_room (l ∷ ls) =
+    by l.path l.mark (lines_room ls) (omega (arith, length-append (line_of l ++ 10 ∷ []) (lines_text ls), length-append (line_of l) (10 ∷ []), length-append (spelling (path_text l.path)) (mark_text l.mark)))
+  where
+    by : (p : Parts) (mark : Mark) → HasRoom (length (lines_text ls)) (links_among ls) → length (mark_text mark) + length (lines_text ls) < length (lines_text (l ∷ ls)) → HasRoom (length (lines_text (l ∷ ls))) (cons_option (link_in_line p mark) (links_among ls))
+    by p (Target text) room long = record {
+      count = omega (arith, room.count, long);
+      texts = omega (arith, room.texts, long, length-append (codes " -> ") (spelling text), spelling_long text, sum_by-cons (λ (k : TableLink). length k.text) (record { path = p; text = text }) (links_among ls));
+    }
+    by p Executable room long = record { count = omega (arith, room.count, long); texts = omega (arith, room.texts, long) }
 
 never_over : (n a b : ℕ) → a ≤ n → b ≤ n → (nat_lt n a || nat_lt n b) ≡ true → ⊥
-never_over n a b p q e = let never : (nat_lt n a || nat_lt n b) ≡ false = grind (arith, nat_tests) in absurd (false≢true (sym never ∙ e))
-
-drop_short : (n : ℕ) (xs : List ℕ) → length (drop n xs) ≤ length xs
-drop_short zero [] = omega arith
-drop_short zero (x ∷ xs) = omega arith
-drop_short (suc n) [] = omega arith
-drop_short (suc n) (x ∷ xs) = omega (arith, drop_short n xs)
+never_over n a b p q e = grind (arith, nat_tests)
 
 body_short : (text : List ℕ) → length (body_of text) ≤ length text
 body_short text = by (is_second text)
   where
     by : (b : Bool) → length (cond b (drop 10 text) text) ≤ length text
-    by true = drop_short 10 text
+    by true = omega (arith, length-drop 10 text)
     by false = omega arith
 
 pub table_caused : (nodes : Nodes) (text : List ℕ) (room : Room) (fault : LoadFault) → room.links ≡ length text → room.bytes ≡ length text → LinesCause (get nodes) room text fault → TableCause nodes text fault
@@ -402,7 +361,8 @@ table_caused nodes text room (Refused (TooLarge place)) a b why =
     let ls = why.1.lines in
     let ks = links_among ls in
     let long : length (body_of text) ≡ length (lines_text ls) + length why.1.front.rest = ap length why.1.front.parts ∙ length-append (lines_text ls) why.1.front.rest in
-    never_over (length text) (length ks) (link_bytes ks) (omega (arith, long, body_short text, count_long ls)) (omega (arith, long, body_short text, texts_long ls))
+    let fits = lines_room ls in
+    never_over (length text) (length ks) (link_bytes ks) (omega (arith, long, body_short text, fits.count)) (omega (arith, long, body_short text, fits.texts))
     (ap (λ n. nat_lt n (length ks) || nat_lt (length text) (link_bytes ks)) (sym a) ∙ (ap (λ n. nat_lt room.links (length ks) || nat_lt n (link_bytes ks)) (sym b) ∙ why.1.many))
 table_caused nodes text room (Refused (BadTable n)) a b why = bad_read (get nodes) text n why.first
 table_caused nodes text room ReadFault a b why = why

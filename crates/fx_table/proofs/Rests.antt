@@ -1,11 +1,5 @@
 -- Places behind a folder's: their order, and what is left of them.
-use Rattle.std.proofs.Common.{◌≡◌, inl, inr, ℕ, false, List, [], ◌∷◌, ◌++◌, length, Some, None, sym, ◌∙◌, ap, arith, append-nil, length-append}
-use Rattle.std.specs.Ordering.{eq_by_cmp}
-use Rattle.std.proofs.lemmas.Bool.{cases_Bool}
-use Rattle.fx_base.proofs.Names.{path_is}
-use Rattle.fx_store.proofs.PathLists.{rest_append}
-use Rattle.fx_outside.specs.Path.{Parts, parts_cmp}
-use Rattle.fx_table.specs.Places.{rest_of}
+use Rattle.fx_table.proofs.Prelude.{◌≡◌, inl, inr, ℕ, false, List, [], ◌∷◌, ◌++◌, length, Some, None, sym, ◌∙◌, ap, arith, append-nil, length-append, eq_by_cmp, cases_Bool, path_is, rest_append, Parts, parts_cmp, rest_of}
 
 -- a place that is not behind the folder is none in it
 pub no_rest : (at q path : Parts) → rest_of at q ≡ None → eq_by_cmp parts_cmp q (at ++ path) ≡ false

@@ -1,19 +1,5 @@
 -- A search among changes in the order of their paths, and the path above another.
-use Rattle.std.proofs.Common.{◌≡◌, ℕ, zero, suc, ◌-◌, ◌<◌, ◌≤◌, cond, T, List, [], ◌∷◌, map, length, take, get_or, Option, Some, None, refl, sym, ◌∙◌, ap, subst, arith, length-take}
-use Rattle.std.specs.Prelude.{unwrap_or}
-use Rattle.std.specs.declared.cmp.Ordering.TheVariants.{Less, Equal, Greater}
-use Rattle.std.specs.Ordering.{eq_by_cmp, ordering_index}
-use Rattle.std.specs.List.Sorted.{IsStrictlySortedBy, IsNonDecreasingBy}
-use Rattle.std.specs.Map.{keys_of}
-use Rattle.std.specs.FinMap.{find, is_sorted}
-use Rattle.fx_outside.proofs.Sorted.{sorted_test, rises, find_at, find_gap}
-use Rattle.fx_store.specs.declared.node.Node.{Node}
-use Rattle.fx_store.specs.declared.changes.Change.{Change}
-use Rattle.fx_store.specs.Changes.{IsChanges, changed_paths, change_at}
-use Rattle.fx_store.specs.Names.{path_cmp, IsPath, IsName}
-use Rattle.fx_store.specs.Orders.{path_total, path_same}
-use Rattle.fx_table.specs.Places.{place_of}
-use Rattle.fx_table.specs.Lines.{standing_by}
+use Rattle.fx_table.proofs.Prelude.{◌≡◌, ℕ, zero, suc, ◌<◌, ◌≤◌, cond, T, List, [], ◌∷◌, map, length, get_or, Option, Some, None, refl, sym, ◌∙◌, ap, subst, arith, unwrap_or, Less, Equal, Greater, eq_by_cmp, ordering_index, IsStrictlySortedBy, IsNonDecreasingBy, keys_of, find, is_sorted, sorted_test, rises, find_at, find_gap, Node, Change, IsChanges, changed_paths, change_at, path_cmp, path_total, path_same, standing_by}
 
 abbrev Paths : Type 0
 Paths = List (List ℕ)
@@ -70,22 +56,3 @@ rises_in changes cs q same up = search_rises cs q (subst IsChanges (sym same) up
 
 pub absent_in : (changes cs : List Change) (i : ℕ) (q : Paths) → cs ≡ changes → IsChanges changes → ((j : ℕ) (d : Change) → j < i → path_cmp (get_or cs j d).path q ≡ Less) → ((j : ℕ) (d : Change) → i ≤ j → j < length cs → path_cmp (get_or cs j d).path q ≡ Greater) → None ≡ standing_by changes q
 absent_in changes cs i q same up before after = absent_change cs i q (subst IsChanges (sym same) up) before after ∙ ap (λ l. standing_by l q) same
-
--- ---- the path above
-
-pub text_none : (p : Paths) (text : List ℕ) → text ≡ [] → text ≡ place_of (take 0 p)
-text_none [] text none = none
-text_none (n ∷ p) text none = none
-
-front : (p : Paths) (k : ℕ) → IsPath p → IsPath (take k p)
-front p k path = record { names = λ i d lt. names i d lt; short = omega (arith, length-take k p, path.short) }
-  where
-    get_take : (xs : Paths) (m i : ℕ) (d : List ℕ) → i < length (take m xs) → get_or (take m xs) i d ≡ get_or xs i d
-    get_take [] zero i d lt = refl
-    get_take [] (suc m) i d lt = refl
-    get_take (x ∷ xs) zero i d lt = absurd (omega arith)
-    get_take (x ∷ xs) (suc m) zero d lt = refl
-    get_take (x ∷ xs) (suc m) (suc i) d lt = get_take xs m i d (omega arith)
-
-    names : (i : ℕ) (d : List ℕ) → i < length (take k p) → IsName (get_or (take k p) i d)
-    names i d lt = subst IsName (sym (get_take p k i d lt)) (path.names i d (omega (arith, length-take k p, lt)))

@@ -1,26 +1,6 @@
 -- Paths with nodes, whose directories are given the names that stand in them, are a whole filestore.
-use Rattle.std.proofs.Common.{◌≡◌, inl, inr, ℕ, Bool, true, false, cond, ◌||◌, List, [], ◌∷◌, ◌++◌, map, Option, Some, None, is_some, IfSome, All, refl, sym, ◌∙◌, ap, subst, arith, length-append}
-use Rattle.std.specs.declared.cmp.Ordering.TheVariants.{Less}
-use Rattle.std.specs.Ordering.{is_eq, eq_by_cmp}
+use Rattle.fx_table.proofs.Prelude.{◌≡◌, inl, inr, ℕ, Bool, true, false, cond, ◌||◌, List, [], ◌∷◌, ◌++◌, map, Option, Some, None, is_some, IfSome, All, refl, sym, ◌∙◌, ap, subst, arith, length-append, Less, is_eq, eq_by_cmp, AllByRecursion, cons_option, IsStrictlySortedBy, keys_of, find, cases_Bool, false≢true, or_right, All-nil, All-cons, All-head, All-tail, name_in, parts_same, true_test, in_folder_cmp, name_in_folder, name_in_pushed, Node, File, Dir, Link, name_cmp, path_cmp, has, IsName, IsPath, path_eq_same, Store, IsWhole, IsNode, lists, IsWhole-same, has_first, is_dir, Mapped, names_below, with_names, listed, IsOfBytes, AreOfBytes}
 use Rattle.std.specs.Option.{option_map}
-use Rattle.std.specs.List.{AllByRecursion, cons_option}
-use Rattle.std.specs.List.Sorted.{IsStrictlySortedBy}
-use Rattle.std.specs.Map.{keys_of}
-use Rattle.std.specs.FinMap.{find}
-use Rattle.std.proofs.lemmas.Bool.{cases_Bool, false≢true, or_right}
-use Rattle.std.proofs.lemmas.List.Elements.{All-nil, All-cons, All-head, All-tail}
-use Rattle.fx_outside.specs.Path.{name_in}
-use Rattle.fx_outside.proofs.Trees.{parts_same, true_test, in_folder_cmp, name_in_folder, name_in_pushed}
-use Rattle.fx_store.specs.declared.node.Node.{Node}
-use Rattle.fx_store.specs.declared.node.Node.TheVariants.{File, Dir, Link}
-use Rattle.fx_store.specs.Names.{name_cmp, path_cmp, has, IsName, IsPath}
-use Rattle.fx_store.specs.Orders.{path_eq_same}
-use Rattle.fx_store.specs.Whole.{Store, IsWhole, IsNode, lists}
-use Rattle.fx_store.proofs.Stores.{IsWhole-same}
-use Rattle.fx_store.proofs.PathLists.{has_first}
-use Rattle.fx_table.specs.Table.{is_dir}
-use Rattle.fx_table.specs.Listed.{Mapped, names_below, with_names, listed}
-use Rattle.fx_table.specs.Shaped.{IsOfBytes, AreOfBytes}
 pub use Rattle.fx_table.specs.Shaped.{IsNodeBounded, IsTreeShaped}
 
 abbrev Paths : Type 0

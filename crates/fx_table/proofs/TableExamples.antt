@@ -1,8 +1,7 @@
 -- The examples of tables, computed.
-use Rattle.std.proofs.Common.{refl}
+use Rattle.fx_table.proofs.Prelude.{refl, is_name}
 use Rattle.std.specs.Str.{is_utf8, chars}
 use lib.Utf8.{encode}
-use Rattle.fx_store.specs.Names.{is_name}
 use Rattle.fx_table.specs.TableExamples.{TableExamples}
 
 pub table_examples : TableExamples

@@ -1,18 +1,6 @@
 -- Two tables at the front of one text: one is a front of the other.
-use Rattle.std.proofs.Common.{◌≡◌, ◌⊎◌, inl, inr, ℕ, suc, ◌+◌, ◌-◌, List, [], ◌∷◌, ◌++◌, map, length, take, flat_map, All, IsTrue, Result, Ok, Err, refl, sym, ◌∙◌, ap, subst, arith, append_assoc, append-nil, length-append}
-use Rattle.std.specs.List.{slice_split}
-use Rattle.std.specs.List.Sorted.{IsStrictlySortedBy}
-use Rattle.std.proofs.lemmas.List.{append_cancel_left}
-use Rattle.std.proofs.lemmas.List.Elements.{All-nil, All-cons, All-head, All-tail}
-use Rattle.std.proofs.lemmas.Option.{same_Some}
-use Rattle.fx_base.proofs.Lists.{ascending_front, same_heads}
-use Rattle.fx_store.specs.Names.{path_cmp}
-use Rattle.fx_table.specs.Table.{TableLine, IsLine, Setting, AreLinesOver, has_place, line_of, lines_text, is_feed, read_line, read_from, lines_or_none}
-use Rattle.fx_table.specs.TableLaws.{IsFirstBadOf}
-use Rattle.fx_table.proofs.TableLines.{first_line, line_read, lines_are_read, texts_are_lines, bad_line_is_first}
-
-abbrev Stands : Setting → TableLine → Type 0
-Stands S l = IsTrue (has_place S l)
+use Rattle.fx_table.proofs.Prelude.{◌≡◌, ◌⊎◌, inl, inr, ℕ, suc, ◌+◌, ◌-◌, List, [], ◌∷◌, ◌++◌, map, length, take, flat_map, All, Result, Ok, Err, refl, sym, ◌∙◌, ap, subst, arith, append_assoc, append-nil, length-append, slice_split, IsStrictlySortedBy, append_cancel_left, map-append, nil_from_length, All-nil, All-cons, All-head, All-tail, same_Some, ascending_front, same_heads, path_cmp, TableLine, IsLine, Setting, AreLinesOver, line_of, lines_text, is_feed, read_line, read_from, lines_or_none, IsFirstBadOf}
+use Rattle.fx_table.proofs.TableLines.{Stands, paths_of, first_line, line_read, lines_are_read, texts_are_lines, bad_line_is_first}
 
 -- ---- a front of a table is a table
 
@@ -20,18 +8,11 @@ all_front : {A : Type 0} (P : A → Type 0) (xs ys : List A) → All P (xs ++ ys
 all_front P [] ys all = All-nil P
 all_front P (x ∷ xs) ys all = All-cons P x xs (All-head P x (xs ++ ys) all) (all_front P xs ys (All-tail P x (xs ++ ys) all))
 
-abbrev paths_of : List TableLine → List (List (List ℕ))
-paths_of ls = map (λ (l : TableLine). l.path) ls
-
-paths_append : (ms ns : List TableLine) → paths_of (ms ++ ns) ≡ paths_of ms ++ paths_of ns
-paths_append [] ns = refl
-paths_append (a ∷ ms) ns = ap (λ l. a.path ∷ l) (paths_append ms ns)
-
 table_front : (S : Setting) (ms ns : List TableLine) → AreLinesOver S (ms ++ ns) → AreLinesOver S ms
 table_front S ms ns table = record {
   valid = all_front IsLine ms ns table.valid;
   stand = all_front (Stands S) ms ns table.stand;
-  ascending = ascending_front path_cmp ([] ∷ paths_of ms) (paths_of ns) (subst (λ l. IsStrictlySortedBy path_cmp ([] ∷ l)) (paths_append ms ns) table.ascending);
+  ascending = ascending_front path_cmp ([] ∷ paths_of ms) (paths_of ns) (subst (λ l. IsStrictlySortedBy path_cmp ([] ∷ l)) (map-append (λ (l : TableLine). l.path) ms ns) table.ascending);
 }
 
 -- ---- one of two tables is a front of the other
@@ -62,13 +43,10 @@ compared (a ∷ ms) (b ∷ ns) r s valid valid' e =
       | inr longer ↦ inr (record { more = longer.more; links = (λ i. first.0 i ∷ longer.links i); rest = longer.rest })
     ]
 
-some_text : (xs : List ℕ) (b : ℕ) (ys r : List ℕ) → [] ≡ ((xs ++ b ∷ []) ++ ys) ++ r → ⊥
-some_text [] b ys r e = cc
-some_text (x ∷ xs) b ys r e = cc
-
 nothing_more : (more : List TableLine) (r : List ℕ) → [] ≡ lines_text more ++ r → more ≡ []
 nothing_more [] r e = refl
-nothing_more (m ∷ more) r e = absurd (some_text (line_of m) 10 (lines_text more) r e)
+nothing_more (m ∷ more) r e =
+    absurd (omega (arith, ap length e, length-append (lines_text (m ∷ more)) r, length-append (line_of m ++ 10 ∷ []) (lines_text more), length-append (line_of m) (10 ∷ [])))
 
 -- a table at the front is a front of the one that is the whole text
 pub before_end : (ms ns : List TableLine) (r : List ℕ) → All IsLine ms → All IsLine ns → lines_text ms ++ r ≡ lines_text ns → IsLonger ms ns r []
@@ -124,15 +102,11 @@ before_bad S first text number bad links s table is = elim (compared links bad.l
       record { more = []; links = sym same ∙ sym (append-nil links); rest = sym rest }
 ]
 
-no_text : (xs ys : List ℕ) → [] ≡ xs ++ ys → ys ≡ []
-no_text [] ys e = sym e
-no_text (x ∷ xs) ys e = cc
-
 -- so a text that is a table has no bad line
 pub none_bad : (S : Setting) (first : ℕ) (text : List ℕ) (number : ℕ) (bad : IsFirstBadOf S first text number) (links : List TableLine) → AreLinesOver S links → text ≡ lines_text links → ⊥
 none_bad S first text number bad links table is =
     let longer = before_bad S first text number bad links [] table (is ∙ sym (append-nil (lines_text links))) in
-    bad.bad.some (no_text (lines_text longer.more) bad.rest longer.rest)
+    bad.bad.some (nil_from_length bad.rest (omega (arith, ap length longer.rest, length-append (lines_text longer.more) bad.rest)))
 
 no_more : {A : Type 0} (xs more less : List A) → xs ≡ (xs ++ more) ++ less → more ≡ []
 no_more xs [] less e = refl

@@ -1,44 +1,18 @@
 -- The lines of a table are read back, and no other text is read.
-use Rattle.std.proofs.Common.{◌≡◌, ℕ, ◌+◌, ◌<◌, ◌≤◌, ltb, Bool, true, false, cond, ◌&&◌, IsTrue, List, [], ◌∷◌, ◌++◌, length, length-append, codes, map, refl, sym, ap, subst, ◌∙◌, arith, Option, Some, None, Result, Ok, Err, append_assoc, All}
-use Rattle.std.specs.Prelude.{bytes_eq, is_ok, is_some, nat_lt}
-use Rattle.std.specs.Ordering.{is_lt}
-use Rattle.std.specs.declared.cmp.Ordering.TheVariants.{Less}
-use Rattle.std.specs.List.{filter_map, slice_split, join_with_byte, AllByRecursion, cons_option, onto_first}
-use Rattle.std.specs.List.Sorted.{IsStrictlySortedBy}
-use Rattle.std.proofs.lemmas.Bool.{false≢true, and_from}
-use Rattle.std.proofs.lemmas.Bool.Decides.{nat_tests}
+use Rattle.fx_table.proofs.Prelude.{◌≡◌, ℕ, ◌+◌, ◌<◌, ◌≤◌, ◌==◌, Bool, true, false, cond, ◌&&◌, IsTrue, List, [], ◌∷◌, ◌++◌, length, length-append, codes, map, refl, sym, ap, subst, ◌∙◌, arith, Option, Some, None, Result, Ok, Err, append_assoc, append-nil, All, bytes_eq, is_ok, is_some, nat_lt, is_lt, filter_map, slice_split, join_with_byte, cons_option, IsStrictlySortedBy, false≢true, and_from, nat_tests, same_Some, map-append, All-nil, All-cons, All-head, All-tail, All-append, All-push, All-weaker, All-at, at_middle, same_heads, chosen_some, chosen_ok, IsPath, IsLinkText, path_cmp, path_text, has_link_form, components, is_above, path_total, read_path_text, path_bytes, spelling, unspelled, Mark, Target, Executable, TableLine, mark_text, line_of, lines_text, linked_line, link_of, flagged, flag_of, read_parts, is_space, read_line, Setting, has_place, next_line, with_first, read_on, read_lines, is_feed, read_from, IsMark, IsLine, IsTableBehind, AreLinesOver, IsFirstBadOf, IsStopped, read_of, link_by, flag_by}
 use Rattle.std.proofs.lemmas.Slice.Eq.{bytes_eq-Decides}
-use Rattle.std.proofs.lemmas.Option.{same_Some}
-use Rattle.std.proofs.lemmas.List.Elements.{All-nil, All-cons, All-head, All-tail, All-append, All-weaker}
 use Rattle.std.proofs.lemmas.List.Splits.{slice_split_none, slice_split_at, length-slice_split, join_with_byte-slice_split}
 use Rattle.fx_base.proofs.Booleans.{second_true, first_true}
-use Rattle.fx_base.proofs.Orders.{is_less}
-use Rattle.fx_base.proofs.Results.{chosen_some, chosen_ok}
 use Rattle.fx_store.specs.declared.name.PathFault.{PathFault}
 use Rattle.fx_store.specs.declared.name.PathFault.TheVariants.{BadName, TooDeep}
-use Rattle.fx_store.specs.Names.{IsPath, IsLinkText, path_cmp, path_text, has_link_form, components}
-use Rattle.fx_store.specs.Orders.{path_total}
 use Rattle.fx_store.specs.Faults.{read_path, read_link}
+use Rattle.fx_store.proofs.Ascending.{ascending-push, above_from_ascending}
 use Rattle.fx_store.proofs.SpellingLaws.{path_texts_read}
-use Rattle.fx_store.proofs.PathLists.{read_path_text, path_bytes}
-use Rattle.fx_table.specs.TableSpelling.{spelling, unspelled}
-use Rattle.fx_table.specs.Table.{Mark, Target, Executable, TableLine, mark_text, line_of, lines_text, linked_line, link_of, flagged, flag_of, read_parts, is_space, read_line, Setting, has_place, next_line, with_first, read_on, read_lines, is_feed, read_from, IsMark, IsLine, IsTableBehind, AreLinesOver}
-use Rattle.fx_table.specs.TableLaws.{IsFirstBadOf}
+use Rattle.fx_table.proofs.Gives.{link_gives, flag_gives, read_from_bytes}
 use Rattle.fx_table.proofs.TableSpelling.{spelling_read, read_spelling, spelling_visible}
 
--- ---- the bytes of names
-
-abbrev IsByte : ℕ → Type 0
-IsByte b = b < 256
-
-below : (c n : ℕ) → ltb c n ≡ true → c < n
-below c n h = grind (arith, nat_tests)
-
-one : (a : ℕ) → a < 256 → All IsByte (a ∷ [])
-one a p = All-cons IsByte a [] p (All-nil IsByte)
-
-two : (a b : ℕ) → a < 256 → b < 256 → All IsByte (a ∷ b ∷ [])
-two a b p q = All-cons IsByte a (b ∷ []) p (one b q)
+abbrev Paths : Type 0
+Paths = List (List ℕ)
 
 -- ---- paths and link texts
 
@@ -52,43 +26,52 @@ spared_ok false x f a e = (refl, cc)
 not_many : (n : ℕ) → nat_lt 64 n ≡ false → n ≤ 64
 not_many n h = grind (arith, nat_tests)
 
-path_of_read : (text : List ℕ) (p : List (List ℕ)) → read_path text ≡ Ok p → (path_text p ≡ text) × IsPath p
-path_of_read text p e =
-    let law = path_texts_read text p in
-    let spells = law.spells e in
-    let deep = spared_ok (nat_lt 64 (length p)) p TooDeep p (sym (law.reads spells) ∙ e) in
-    (spells.spelled, record { names = spells.names; short = not_many (length p) deep.0 })
+-- what a spelled path is read from
+path_of_read : (spelled : List ℕ) (p : Paths) → read_of read_path (unspelled spelled) ≡ Some p → (spelling (path_text p) ≡ spelled) × IsPath p
+path_of_read spelled p e =
+    let from = read_from_bytes read_path (unspelled spelled) p e in
+    let law = path_texts_read from.0 p in
+    let spells = law.spells from.2 in
+    let deep = spared_ok (nat_lt 64 (length p)) p TooDeep p (sym (law.reads spells) ∙ from.2) in
+    (ap spelling spells.spelled ∙ (read_spelling spelled from.0 from.1).spelled, record { names = spells.names; short = not_many (length p) deep.0 })
 
 read_link_text : (text : List ℕ) → IsLinkText text → read_link text ≡ Ok text
 read_link_text text link =
     ap (λ b. cond b (cond (nat_lt 64 (length (components text))) (Err TooDeep) (Ok text)) (Err BadName)) link.form
     ∙ few (length (components text)) (Ok text) TooDeep link.short
 
-link_of_read : (text link : List ℕ) → All IsByte text → read_link text ≡ Ok link → (link ≡ text) × IsLinkText link
-link_of_read text link bytes e =
-    let form = chosen_ok (has_link_form text) (cond (nat_lt 64 (length (components text))) (Err TooDeep) (Ok text)) BadName link e in
+link_of_read : (spelled link : List ℕ) → read_of read_link (unspelled spelled) ≡ Some link → (spelling link ≡ spelled) × IsLinkText link
+link_of_read spelled link e =
+    let from = read_from_bytes read_link (unspelled spelled) link e in
+    let text = from.0 in
+    let is = read_spelling spelled text from.1 in
+    let form = chosen_ok (has_link_form text) (cond (nat_lt 64 (length (components text))) (Err TooDeep) (Ok text)) BadName link from.2 in
     let deep = spared_ok (nat_lt 64 (length (components text))) text TooDeep link form.1 in
-    (sym deep.1, subst IsLinkText deep.1 (record { form = form.0; short = not_many (length (components text)) deep.0; bytes = bytes }))
+    (ap spelling (sym deep.1) ∙ is.spelled, subst IsLinkText deep.1 (record { form = form.0; short = not_many (length (components text)) deep.0; bytes = is.bytes }))
 
 -- ---- a line
 
+-- a byte that no spelling has
+lacks : (c : ℕ) → c < 33 → (bs : List ℕ) → All (λ b. (b == c) ≡ false) (spelling bs)
+lacks c low bs = All-weaker (λ b. 33 ≤ b) (λ b. (b == c) ≡ false) (λ b h. grind (arith, nat_tests)) (spelling bs) (spelling_visible bs)
+
 no_space : (bs : List ℕ) → All (λ b. is_space b ≡ false) (spelling bs)
-no_space bs = All-weaker (λ b. 33 ≤ b) (λ b. is_space b ≡ false) (λ b h. grind (arith, nat_tests)) (spelling bs) (spelling_visible bs)
+no_space bs = lacks 32 (omega arith) bs
 
 arrow_has_none : All (λ b. is_space b ≡ false) (codes "->")
 arrow_has_none = All-cons (λ b. is_space b ≡ false) 45 (62 ∷ []) refl (All-cons (λ b. is_space b ≡ false) 62 [] refl (All-nil (λ b. is_space b ≡ false)))
 
-line_parts : (path : List (List ℕ)) (text : List ℕ) → slice_split is_space (spelling (path_text path) ++ (codes " -> " ++ spelling text)) ≡ spelling (path_text path) ∷ codes "->" ∷ spelling text ∷ []
+line_parts : (path : Paths) (text : List ℕ) → slice_split is_space (spelling (path_text path) ++ (codes " -> " ++ spelling text)) ≡ spelling (path_text path) ∷ codes "->" ∷ spelling text ∷ []
 line_parts path text =
     slice_split_at is_space (spelling (path_text path)) 32 (codes "-> " ++ spelling text) (no_space (path_text path)) refl
     ∙ ap (λ ps. spelling (path_text path) ∷ ps)
     (slice_split_at is_space (codes "->") 32 (spelling text) arrow_has_none refl
     ∙ ap (λ ps. codes "->" ∷ ps) (slice_split_none is_space (spelling text) (no_space text)))
 
-flag_parts : (path : List (List ℕ)) → slice_split is_space (spelling (path_text path) ++ codes " *") ≡ spelling (path_text path) ∷ codes "*" ∷ []
+flag_parts : (path : Paths) → slice_split is_space (spelling (path_text path) ++ codes " *") ≡ spelling (path_text path) ∷ codes "*" ∷ []
 flag_parts path = slice_split_at is_space (spelling (path_text path)) 32 (codes "*") (no_space (path_text path)) refl
 
-marked_read : (path : List (List ℕ)) (mark : Mark) → IsPath path → IsMark mark → read_line (spelling (path_text path) ++ mark_text mark) ≡ Some (record { path = path; mark = mark })
+marked_read : (path : Paths) (mark : Mark) → IsPath path → IsMark mark → read_line (spelling (path_text path) ++ mark_text mark) ≡ Some (record { path = path; mark = mark })
 marked_read path (Target text) valid is =
     ap read_parts (line_parts path text)
     ∙ (ap (λ p. link_of p (unspelled (spelling text))) (spelling_read (path_text path) (path_bytes path valid.names))
@@ -106,63 +89,31 @@ pub record IsLineOf (line : List ℕ) (l : TableLine) : Type 0 where
   pub spelled : line ≡ line_of l
   pub valid : IsLine l
 
--- what two texts spell
-record AreParts (a b : List ℕ) (l : TableLine) : Type 0 where
-  path : spelling (path_text l.path) ≡ a
-  mark : mark_text l.mark ≡ codes " -> " ++ b
-  valid : IsLine l
+link_is : (a b : List ℕ) (x : Option Paths) (y : Option (List ℕ)) (l : TableLine) → read_of read_path (unspelled a) ≡ x → read_of read_link (unspelled b) ≡ y → link_by x y ≡ Some l → IsLineOf (a ++ (codes " -> " ++ b)) l
+link_is a b (Some p) (Some t) l e f is =
+    let path = path_of_read a p e in
+    let text = link_of_read b t f in
+    subst (IsLineOf (a ++ (codes " -> " ++ b))) (same_Some _ l is)
+    (record { spelled = (λ i. sym path.0 i ++ (codes " -> " ++ sym text.0 i)); valid = record { path = path.1; mark = text.1 } })
+link_is a b (Some p) None l e f is = absurd (false≢true (ap is_some is))
+link_is a b None y l e f is = absurd (false≢true (ap is_some is))
 
-linked_is : (a b p t : List ℕ) (x : Result (List (List ℕ)) PathFault) (y : Result (List ℕ) PathFault) (l : TableLine) → spelling p ≡ a → spelling t ≡ b → All IsByte t → read_path p ≡ x → read_link t ≡ y → linked_line x y ≡ Some l → AreParts a b l
-linked_is a b p t (Ok path) (Ok text) l pa tb bytes e f is =
-    let here = path_of_read p path e in
-    let there = link_of_read t text bytes f in
-    let same : ◌≡◌ {A = TableLine} (record { path = path; mark = Target text }) l = same_Some (record { path = path; mark = Target text }) l is in
-    subst (AreParts a b) same (record {
-      path = ap spelling here.0 ∙ pa;
-      mark = ap (λ u. codes " -> " ++ spelling u) there.0 ∙ ap (λ u. codes " -> " ++ u) tb;
-      valid = record { path = here.1; mark = there.1 };
-    })
-linked_is a b p t (Ok path) (Err fault) l pa tb bytes e f is = absurd (false≢true (ap is_some is))
-linked_is a b p t (Err fault) y l pa tb bytes e f is = absurd (false≢true (ap is_some is))
-
-link_of_is : (a b : List ℕ) (p t : Option (List ℕ)) (l : TableLine) → unspelled a ≡ p → unspelled b ≡ t → link_of p t ≡ Some l → AreParts a b l
-link_of_is a b (Some p) (Some t) l e f is =
-    let path = read_spelling a p e in
-    let text = read_spelling b t f in
-    linked_is a b p t (read_path p) (read_link t) l path.spelled text.spelled text.bytes refl refl is
-link_of_is a b (Some p) None l e f is = absurd (false≢true (ap is_some is))
-link_of_is a b None t l e f is = absurd (false≢true (ap is_some is))
-
--- what a text spells that stands before a star
-record IsFlag (a : List ℕ) (l : TableLine) : Type 0 where
-  path : spelling (path_text l.path) ≡ a
-  mark : mark_text l.mark ≡ codes " *"
-  valid : IsLine l
-
-flagged_is : (a p : List ℕ) (x : Result (List (List ℕ)) PathFault) (l : TableLine) → spelling p ≡ a → read_path p ≡ x → flagged x ≡ Some l → IsFlag a l
-flagged_is a p (Ok path) l pa e is =
-    let here = path_of_read p path e in
-    let same : ◌≡◌ {A = TableLine} (record { path = path; mark = Executable }) l = same_Some (record { path = path; mark = Executable }) l is in
-    subst (IsFlag a) same (record { path = ap spelling here.0 ∙ pa; mark = refl; valid = record { path = here.1; mark = tt } })
-flagged_is a p (Err fault) l pa e is = absurd (false≢true (ap is_some is))
-
-flag_of_is : (a : List ℕ) (p : Option (List ℕ)) (l : TableLine) → unspelled a ≡ p → flag_of p ≡ Some l → IsFlag a l
-flag_of_is a (Some p) l e is = let path = read_spelling a p e in flagged_is a p (read_path p) l path.spelled refl is
-flag_of_is a None l e is = absurd (false≢true (ap is_some is))
+flag_is : (a : List ℕ) (x : Option Paths) (l : TableLine) → read_of read_path (unspelled a) ≡ x → flag_by x ≡ Some l → IsLineOf (a ++ codes " *") l
+flag_is a (Some p) l e is =
+    let path = path_of_read a p e in
+    subst (IsLineOf (a ++ codes " *")) (same_Some _ l is)
+    (record { spelled = ap (λ t. t ++ codes " *") (sym path.0); valid = record { path = path.1; mark = tt } })
+flag_is a None l e is = absurd (false≢true (ap is_some is))
 
 parts_are : (parts : List (List ℕ)) (l : TableLine) → read_parts parts ≡ Some l → IsLineOf (join_with_byte 32 parts) l
 parts_are [] l is = absurd (false≢true (ap is_some is))
 parts_are (a ∷ []) l is = absurd (false≢true (ap is_some is))
 parts_are (a ∷ star ∷ []) l is =
     let both = chosen_some (bytes_eq star (codes "*")) (flag_of (unspelled a)) l is in
-    let mark = (bytes_eq-Decides star (codes "*")).0 both.0 in
-    let found = flag_of_is a (unspelled a) l refl both.1 in
-    record { spelled = ap (λ m. a ++ 32 ∷ m) mark ∙ (ap (λ p. p ++ codes " *") (sym found.path) ∙ ap (λ t. spelling (path_text l.path) ++ t) (sym found.mark)); valid = found.valid }
+    subst (λ m. IsLineOf (a ++ 32 ∷ m) l) (sym ((bytes_eq-Decides star (codes "*")).0 both.0)) (flag_is a _ l refl (sym (flag_gives (unspelled a)) ∙ both.1))
 parts_are (a ∷ arrow ∷ b ∷ []) l is =
     let both = chosen_some (bytes_eq arrow (codes "->")) (link_of (unspelled a) (unspelled b)) l is in
-    let mark = (bytes_eq-Decides arrow (codes "->")).0 both.0 in
-    let found = link_of_is a b (unspelled a) (unspelled b) l refl refl both.1 in
-    record { spelled = ap (λ m. a ++ 32 ∷ (m ++ 32 ∷ b)) mark ∙ (ap (λ p. p ++ (codes " -> " ++ b)) (sym found.path) ∙ ap (λ t. spelling (path_text l.path) ++ t) (sym found.mark)); valid = found.valid }
+    subst (λ m. IsLineOf (a ++ 32 ∷ (m ++ 32 ∷ b)) l) (sym ((bytes_eq-Decides arrow (codes "->")).0 both.0)) (link_is a b _ _ l refl refl (sym (link_gives (unspelled a) (unspelled b)) ∙ both.1))
 parts_are (a ∷ b ∷ c ∷ d ∷ more) l is = absurd (false≢true (ap is_some is))
 
 pub line_is : (line : List ℕ) (l : TableLine) → read_line line ≡ Some l → IsLineOf line l
@@ -170,151 +121,217 @@ line_is line l is = subst (λ t. IsLineOf t l) (join_with_byte-slice_split 32 li
 
 -- ---- a table
 
-feedless : (bs : List ℕ) → All (λ b. is_feed b ≡ false) (spelling bs)
-feedless bs = All-weaker (λ b. 33 ≤ b) (λ b. is_feed b ≡ false) (λ b h. grind (arith, nat_tests)) (spelling bs) (spelling_visible bs)
-
-arrow_feedless : All (λ b. is_feed b ≡ false) (codes " -> ")
-arrow_feedless =
-    All-cons (λ b. is_feed b ≡ false) 32 (45 ∷ 62 ∷ 32 ∷ []) refl
-    (All-cons (λ b. is_feed b ≡ false) 45 (62 ∷ 32 ∷ []) refl (All-cons (λ b. is_feed b ≡ false) 62 (32 ∷ []) refl (All-cons (λ b. is_feed b ≡ false) 32 [] refl (All-nil (λ b. is_feed b ≡ false)))))
-
-star_feedless : All (λ b. is_feed b ≡ false) (codes " *")
-star_feedless = All-cons (λ b. is_feed b ≡ false) 32 (42 ∷ []) refl (All-cons (λ b. is_feed b ≡ false) 42 [] refl (All-nil (λ b. is_feed b ≡ false)))
-
 mark_feedless : (mark : Mark) → All (λ b. is_feed b ≡ false) (mark_text mark)
-mark_feedless (Target text) = All-append (λ b. is_feed b ≡ false) (codes " -> ") (spelling text) arrow_feedless (feedless text)
-mark_feedless Executable = star_feedless
-
-pub line_feedless : (l : TableLine) → All (λ b. is_feed b ≡ false) (line_of l)
-line_feedless l = All-append (λ b. is_feed b ≡ false) (spelling (path_text l.path)) (mark_text l.mark) (feedless (path_text l.path)) (mark_feedless l.mark)
+mark_feedless (Target text) =
+    All-cons (λ b. is_feed b ≡ false) 32 (codes "-> " ++ spelling text) refl
+    (All-cons (λ b. is_feed b ≡ false) 45 (codes "> " ++ spelling text) refl
+    (All-cons (λ b. is_feed b ≡ false) 62 (codes " " ++ spelling text) refl (All-cons (λ b. is_feed b ≡ false) 32 (spelling text) refl (lacks 10 (omega arith) text))))
+mark_feedless Executable = All-cons (λ b. is_feed b ≡ false) 32 (42 ∷ []) refl (All-cons (λ b. is_feed b ≡ false) 42 [] refl (All-nil (λ b. is_feed b ≡ false)))
 
 -- the first line, and those behind it
+cut : (l : TableLine) (later : List ℕ) → slice_split is_feed (line_of l ++ 10 ∷ later) ≡ line_of l ∷ slice_split is_feed later
+cut l later = slice_split_at is_feed (line_of l) 10 later (All-append (λ b. is_feed b ≡ false) (spelling (path_text l.path)) (mark_text l.mark) (lacks 10 (omega arith) (path_text l.path)) (mark_feedless l.mark)) refl
+
 pub first_line : (l : TableLine) (text : List ℕ) → slice_split is_feed ((line_of l ++ 10 ∷ []) ++ text) ≡ line_of l ∷ slice_split is_feed text
-first_line l text = ap (slice_split is_feed) (append_assoc (line_of l) (10 ∷ []) text) ∙ slice_split_at is_feed (line_of l) 10 text (line_feedless l) refl
+first_line l text = ap (slice_split is_feed) (append_assoc (line_of l) (10 ∷ []) text) ∙ cut l text
 
 pub some_line : (text : List ℕ) → 0 < length (slice_split is_feed text)
 some_line text = omega (arith, length-slice_split is_feed text)
 
 -- a line with its line feed
-read_more : (S : Setting) (before : List (List ℕ)) (number : ℕ) (line : List ℕ) (lines : List (List ℕ)) → 0 < length lines
+read_more : (S : Setting) (before : Paths) (number : ℕ) (line : List ℕ) (lines : List (List ℕ)) → 0 < length lines
     → read_lines S before number (line ∷ lines) ≡ read_on number (next_line S before (read_line line)) (λ link. read_lines S link.path (number + 1) lines)
 read_more S before number line [] some = absurd (omega arith)
 read_more S before number [] (next ∷ lines) some = refl
 read_more S before number (b ∷ line) (next ∷ lines) some = refl
 
+abbrev pub Stands : Setting → TableLine → Type 0
+Stands S l = IsTrue (has_place S l)
+
 -- the first link of a table and the others
-first_stands : (S : Setting) (before : List (List ℕ)) (l : TableLine) (ls : List TableLine) → IsTableBehind S before (l ∷ ls) → next_line S before (Some l) ≡ Some l
+first_stands : (S : Setting) (before : Paths) (l : TableLine) (ls : List TableLine) → IsTableBehind S before (l ∷ ls) → next_line S before (Some l) ≡ Some l
 unfolding IsStrictlySortedBy
 first_stands S before l ls t =
-    ap (λ b. cond b (Some l) None)
-    (and_from (is_lt (path_cmp before l.path)) (has_place S l) (ap is_lt t.ascending.0.0) (All-head (λ (l : TableLine). IsTrue (has_place S l)) l ls t.stand))
+    ap (λ b. cond b (Some l) None) (and_from (is_lt (path_cmp before l.path)) (has_place S l) (ap is_lt t.ascending.0.0) (All-head (Stands S) l ls t.stand))
 
-others_stand : (S : Setting) (before : List (List ℕ)) (l : TableLine) (ls : List TableLine) → IsTableBehind S before (l ∷ ls) → IsTableBehind S l.path ls
+others_stand : (S : Setting) (before : Paths) (l : TableLine) (ls : List TableLine) → IsTableBehind S before (l ∷ ls) → IsTableBehind S l.path ls
 unfolding IsStrictlySortedBy
-others_stand S before l ls t =
-    record { valid = All-tail IsLine l ls t.valid; stand = All-tail (λ (l : TableLine). IsTrue (has_place S l)) l ls t.stand; ascending = t.ascending.1 }
+others_stand S before l ls t = record { valid = All-tail IsLine l ls t.valid; stand = All-tail (Stands S) l ls t.stand; ascending = t.ascending.1 }
 
-table_read : (S : Setting) (before : List (List ℕ)) (number : ℕ) (ls : List TableLine) → IsTableBehind S before ls → read_lines S before number (slice_split is_feed (lines_text ls)) ≡ Ok ls
+table_read : (S : Setting) (before : Paths) (number : ℕ) (ls : List TableLine) → IsTableBehind S before ls → read_lines S before number (slice_split is_feed (lines_text ls)) ≡ Ok ls
 table_read S before number [] t = refl
 table_read S before number (l ∷ ls) t =
+    let rest = slice_split is_feed (lines_text ls) in
+    let further = λ (o : Option TableLine). read_on number o (λ k. read_lines S k.path (number + 1) rest) in
     ap (read_lines S before number) (first_line l (lines_text ls))
-    ∙ (read_more S before number (line_of l) (slice_split is_feed (lines_text ls)) (some_line (lines_text ls))
-    ∙ (ap (λ o. read_on number (next_line S before o) (λ link. read_lines S link.path (number + 1) (slice_split is_feed (lines_text ls)))) (line_read l (All-head IsLine l ls t.valid))
-    ∙ (ap (λ o. read_on number o (λ link. read_lines S link.path (number + 1) (slice_split is_feed (lines_text ls)))) (first_stands S before l ls t)
+    ∙ (read_more S before number (line_of l) rest (some_line (lines_text ls))
+    ∙ (ap (λ o. further (next_line S before o)) (line_read l (All-head IsLine l ls t.valid))
+    ∙ (ap further (first_stands S before l ls t)
     ∙ ap (with_first l) (table_read S l.path (number + 1) ls (others_stand S before l ls t)))))
 
 pub lines_are_read : (S : Setting) (first : ℕ) (lines : List TableLine) → AreLinesOver S lines → read_from S first (lines_text lines) ≡ Ok lines
 lines_are_read S first lines t = table_read S [] first lines t
 
--- ---- a text that is read
+-- ---- one line more
 
--- the link follows the line of a path
-record Follows (S : Setting) (before : List (List ℕ)) (o : Option TableLine) (l : TableLine) : Type 0 where
-  was : o ≡ Some l
-  above : path_cmp before l.path ≡ Less
-  stands : IsTrue (has_place S l)
+abbrev pub paths_of : List TableLine → List Paths
+paths_of ls = map (λ (l : TableLine). l.path) ls
 
-next_is : (S : Setting) (before : List (List ℕ)) (o : Option TableLine) (l : TableLine) → next_line S before o ≡ Some l → Follows S before o l
-next_is S before None l e = absurd (false≢true (ap is_some e))
-next_is S before (Some k) l e =
-    let both = chosen_some (is_lt (path_cmp before k.path) && has_place S k) (Some k) l e in
-    let same : k ≡ l = cc in
-    subst (Follows S before (Some k)) same
-    (record {
-      was = refl;
-      above = is_less (path_cmp before k.path) (first_true (is_lt (path_cmp before k.path)) (has_place S k) both.0);
-      stands = second_true (is_lt (path_cmp before k.path)) (has_place S k) both.0;
-    })
+-- a line that has its place behind others
+pub record IsNext (S : Setting) (ls : List TableLine) (l : TableLine) : Type 0 where
+  pub valid : IsLine l
+  pub stands : IsTrue (has_place S l)
+  pub ascending : IsStrictlySortedBy path_cmp ([] ∷ (paths_of ls ++ l.path ∷ []))
 
--- a path below the first of an ascending list is below all of it
-below_rest : (p q : List (List ℕ)) (ps : List (List (List ℕ))) → path_cmp p q ≡ Less → AllByRecursion (λ r. path_cmp q r ≡ Less) ps → AllByRecursion (λ r. path_cmp p r ≡ Less) ps
-below_rest p q [] e all = tt
-below_rest p q (r ∷ ps) e all = (path_total.trans p q r e all.0, below_rest p q ps e all.1)
+pub table_more : (S : Setting) (ls : List TableLine) (l : TableLine) → AreLinesOver S ls → IsNext S ls l → AreLinesOver S (ls ++ l ∷ [])
+table_more S ls l table next = record {
+  valid = All-push IsLine ls l table.valid next.valid;
+  stand = All-push (Stands S) ls l table.stand next.stands;
+  ascending = subst (λ ps. IsStrictlySortedBy path_cmp ([] ∷ ps)) (sym (map-append (λ (k : TableLine). k.path) ls (l ∷ []))) next.ascending;
+}
 
-no_links : (S : Setting) (before : List (List ℕ)) → IsTableBehind S before []
+pub last_next : (S : Setting) (ls : List TableLine) (l : TableLine) → AreLinesOver S (ls ++ l ∷ []) → IsNext S ls l
+last_next S ls l table = record {
+  valid = All-at IsLine (ls ++ l ∷ []) (length ls) l table.valid (at_middle ls [] l);
+  stands = All-at (Stands S) (ls ++ l ∷ []) (length ls) l table.stand (at_middle ls [] l);
+  ascending = subst (λ ps. IsStrictlySortedBy path_cmp ([] ∷ ps)) (map-append (λ (k : TableLine). k.path) ls (l ∷ [])) table.ascending;
+}
+
+-- the path is that of the last line, or the root's
+abbrev IsLast : List TableLine → Paths → Type 0
+IsLast ls before = (p : Paths) → is_lt (path_cmp before p) ≡ is_above path_cmp ([] ∷ paths_of ls) p
+
+last_pushed : (ls : List TableLine) (l : TableLine) → IsLast (ls ++ l ∷ []) l.path
+last_pushed ls l p = by [] (paths_of ls) ∙ ap (λ ps. is_above path_cmp ([] ∷ ps) p) (sym (map-append (λ (k : TableLine). k.path) ls (l ∷ [])))
+  where
+    by : (q : Paths) (ps : List Paths) → is_lt (path_cmp l.path p) ≡ is_above path_cmp (q ∷ (ps ++ l.path ∷ [])) p
+    by q [] = refl
+    by q (r ∷ ps) = by r ps
+
+module _ (S : Setting) (ls : List TableLine) (before : Paths) (table : AreLinesOver S ls) (last : IsLast ls before) where
+  -- the line is that of a piece, and has its place behind the others
+  record Follows (line : List ℕ) (l : TableLine) : Type 0 where
+    is : line ≡ line_of l
+    more : AreLinesOver S (ls ++ l ∷ [])
+
+  next_is : (line : List ℕ) (o : Option TableLine) (l : TableLine) → read_line line ≡ o → next_line S before o ≡ Some l → Follows line l
+  next_is line None l read e = absurd (false≢true (ap is_some e))
+  next_is line (Some k) l read e =
+      let both = chosen_some (is_lt (path_cmp before k.path) && has_place S k) (Some k) l e in
+      let here = line_is line k read in
+      let above = sym (last k.path) ∙ first_true (is_lt (path_cmp before k.path)) (has_place S k) both.0 in
+      subst (Follows line) (same_Some k l both.1)
+      (record {
+        is = here.spelled;
+        more = table_more S ls k table (record {
+          valid = here.valid;
+          stands = second_true (is_lt (path_cmp before k.path)) (has_place S k) both.0;
+          ascending = ascending-push path_total ([] ∷ paths_of ls) k.path table.ascending above;
+        });
+      })
+
+  next_stands : (l : TableLine) → AreLinesOver S (ls ++ l ∷ []) → next_line S before (Some l) ≡ Some l
+  next_stands l more =
+      let next = last_next S ls l more in
+      ap (λ b. cond b (Some l) None)
+      (and_from (is_lt (path_cmp before l.path)) (has_place S l) (last l.path ∙ above_from_ascending path_cmp ([] ∷ paths_of ls) l.path next.ascending) next.stands)
+
+-- ---- the lines before a place
+
+-- lines that have their places stand before the rest of a text
+pub record IsAt (S : Setting) (text : List ℕ) (ls : List TableLine) (rest : List ℕ) : Type 0 where
+  pub table : AreLinesOver S ls
+  pub parts : text ≡ lines_text ls ++ rest
+
+pub at_start : (S : Setting) (text : List ℕ) → IsAt S text [] text
 unfolding IsStrictlySortedBy
-no_links S before = record { valid = All-nil IsLine; stand = All-nil (λ (l : TableLine). IsTrue (has_place S l)); ascending = (tt, tt) }
+at_start S text = record { table = record { valid = All-nil IsLine; stand = All-nil (Stands S); ascending = (tt, tt) }; parts = refl }
 
-one_more : (S : Setting) (before : List (List ℕ)) (o : Option TableLine) (l : TableLine) (ls : List TableLine) → IsLine l → Follows S before o l → IsTableBehind S l.path ls → IsTableBehind S before (l ∷ ls)
-unfolding IsStrictlySortedBy
-one_more S before o l ls link f t =
-    record {
-      valid = All-cons IsLine l ls link t.valid;
-      stand = All-cons (λ (l : TableLine). IsTrue (has_place S l)) l ls f.stands t.stand;
-      ascending = ((f.above, below_rest before l.path (map (λ (l : TableLine). l.path) ls) f.above t.ascending.0), t.ascending);
-    }
+text_push : (ls : List TableLine) (l : TableLine) (rest : List ℕ) → lines_text (ls ++ l ∷ []) ++ rest ≡ lines_text ls ++ (line_of l ++ 10 ∷ rest)
+text_push [] l rest = ap (λ t. t ++ rest) (append-nil (line_of l ++ 10 ∷ [])) ∙ append_assoc (line_of l) (10 ∷ []) rest
+text_push (k ∷ ls) l rest =
+    append_assoc (line_of k ++ 10 ∷ []) (lines_text (ls ++ l ∷ [])) rest
+    ∙ (ap (λ t. (line_of k ++ 10 ∷ []) ++ t) (text_push ls l rest) ∙ sym (append_assoc (line_of k ++ 10 ∷ []) (lines_text ls) (line_of l ++ 10 ∷ rest)))
 
--- the text is that of a table behind a path
-record SpellsBehind (S : Setting) (before : List (List ℕ)) (text : List ℕ) (ls : List TableLine) : Type 0 where
-  spelled : text ≡ lines_text ls
-  table : IsTableBehind S before ls
+module _ (S : Setting) (text : List ℕ) (ls : List TableLine) (rest : List ℕ) (at : IsAt S text ls rest) where
+  pub at_more : (l : TableLine) (later : List ℕ) → rest ≡ line_of l ++ 10 ∷ later → AreLinesOver S (ls ++ l ∷ []) → IsAt S text (ls ++ l ∷ []) later
+  at_more l later is more = record { table = more; parts = at.parts ∙ (ap (λ t. lines_text ls ++ t) is ∙ sym (text_push ls l later)) }
 
-nothing_read : (S : Setting) (before : List (List ℕ)) (ls : List TableLine) → ◌≡◌ {A = Result (List TableLine) ℕ} (Ok []) (Ok ls) → SpellsBehind S before [] ls
-nothing_read S before ls e = let same : [] ≡ ls = cc in subst (SpellsBehind S before []) same (record { spelled = refl; table = no_links S before })
+  pub at_end : rest ≡ [] → text ≡ lines_text ls
+  at_end none = at.parts ∙ (ap (λ t. lines_text ls ++ t) none ∙ append-nil (lines_text ls))
 
-first_ok : (l : TableLine) (r : Result (List TableLine) ℕ) (ls : List TableLine) → with_first l r ≡ Ok ls → (later : List TableLine) × (r ≡ Ok later) × (l ∷ later ≡ ls)
-first_ok l (Ok later) ls e = (later, refl, cc)
-first_ok l (Err n) ls e = absurd (false≢true (ap is_ok e))
+  abbrev pub bad_at : (first number : ℕ) → number ≡ length ls + first → (rest ≡ [] → ⊥) → IsStopped S rest ls → IsFirstBadOf S first text number
+  bad_at first number count some stops =
+      record { lines = ls; rest = rest; parts = at.parts; table = at.table; bad = record { place = count; some = some; stops = stops } }
 
--- what is read behind a line that gives a link
-record GoesOn (o : Option TableLine) (further : TableLine → Result (List TableLine) ℕ) (ls : List TableLine) : Type 0 where
-  link : TableLine
-  later : List TableLine
-  found : o ≡ Some link
-  rest : further link ≡ Ok later
-  whole : link ∷ later ≡ ls
+-- a line that lacks its line feed
+pub unfed : (S : Setting) (ls : List TableLine) (rest line : List ℕ) → slice_split is_feed rest ≡ line ∷ [] → IsStopped S rest ls
+unfed S ls rest line one l later is more =
+    let lines : line ∷ [] ≡ line_of l ∷ slice_split is_feed later = sym one ∙ (ap (slice_split is_feed) is ∙ cut l later) in
+    omega (arith, ap length lines, some_line later)
 
-goes_on : (n : ℕ) (o : Option TableLine) (further : TableLine → Result (List TableLine) ℕ) (ls : List TableLine) → read_on n o further ≡ Ok ls → GoesOn o further ls
-goes_on n None further ls e = absurd (false≢true (ap is_ok e))
-goes_on n (Some l) further ls e = let both = first_ok l (further l) ls e in record { link = l; later = both.0; found = refl; rest = both.1; whole = both.2 }
+-- a line that says nothing, or nothing that has its place
+pub misread : (S : Setting) (ls : List TableLine) (rest line : List ℕ) (lines : List (List ℕ)) → slice_split is_feed rest ≡ line ∷ lines → ((l : TableLine) → read_line line ≡ Some l → AreLinesOver S (ls ++ l ∷ []) → ⊥) → IsStopped S rest ls
+misread S ls rest line lines front never l later is more =
+    let same = same_heads line (line_of l) lines (slice_split is_feed later) (sym front ∙ (ap (slice_split is_feed) is ∙ cut l later)) in
+    never l (ap read_line same ∙ line_read l (last_next S ls l more).valid) more
 
-longer : (S : Setting) (before : List (List ℕ)) (line text : List ℕ) (l : TableLine) (ls : List TableLine) → next_line S before (read_line line) ≡ Some l → SpellsBehind S l.path text ls → SpellsBehind S before (line ++ 10 ∷ text) (l ∷ ls)
-longer S before line text l ls e s =
-    let follows = next_is S before (read_line line) l e in
-    let here = line_is line l follows.was in
-    record {
-      spelled = ap (λ t. t ++ 10 ∷ text) here.spelled ∙ (ap (λ t. line_of l ++ 10 ∷ t) s.spelled ∙ sym (append_assoc (line_of l) (10 ∷ []) (lines_text ls)));
-      table = one_more S before (read_line line) l ls here.valid follows s.table;
-    }
-
-read_is : (S : Setting) (before : List (List ℕ)) (number : ℕ) (lines : List (List ℕ)) (ls : List TableLine) → read_lines S before number lines ≡ Ok ls → SpellsBehind S before (join_with_byte 10 lines) ls
-read_is S before number [] ls e = nothing_read S before ls e
-read_is S before number ([] ∷ []) ls e = nothing_read S before ls e
-read_is S before number ((b ∷ line) ∷ []) ls e = absurd (false≢true (ap is_ok e))
-read_is S before number (line ∷ next ∷ lines) ls e =
-    let on = goes_on number (next_line S before (read_line line)) (λ link. read_lines S link.path (number + 1) (next ∷ lines)) ls (sym (read_more S before number line (next ∷ lines) (omega arith)) ∙ e) in
-    subst (SpellsBehind S before (line ++ 10 ∷ join_with_byte 10 (next ∷ lines))) on.whole
-    (longer S before line (join_with_byte 10 (next ∷ lines)) on.link on.later on.found (read_is S on.link.path (number + 1) (next ∷ lines) on.later on.rest))
+-- ---- a text that is read, or refused at its first bad line
 
 -- the text is that of lines that have their places
 pub record SpellsLines (S : Setting) (text : List ℕ) (lines : List TableLine) : Type 0 where
   pub spelled : text ≡ lines_text lines
   pub table : AreLinesOver S lines
 
-pub texts_are_lines : (S : Setting) (first : ℕ) (text : List ℕ) (lines : List TableLine) → read_from S first text ≡ Ok lines → SpellsLines S text lines
-texts_are_lines S first text lines e =
-    let all = read_is S [] first (slice_split is_feed text) lines e in
-    record { spelled = sym (join_with_byte-slice_split 10 text) ∙ all.spelled; table = all.table }
+module _ (S : Setting) (first : ℕ) (text : List ℕ) where
+  -- what is read behind lines
+  abbrev Ends : List TableLine → Result (List TableLine) ℕ → Type 0
+  Ends ls (Ok more) = SpellsLines S text (ls ++ more)
+  Ends ls (Err number) = IsFirstBadOf S first text number
+
+  ends_more : (ls : List TableLine) (l : TableLine) (r : Result (List TableLine) ℕ) → Ends (ls ++ l ∷ []) r → Ends ls (with_first l r)
+  ends_more ls l (Ok more) ends = subst (SpellsLines S text) (append_assoc ls (l ∷ []) more) ends
+  ends_more ls l (Err number) ends = ends
+
+  joined : (rest : List ℕ) (pieces : List (List ℕ)) → slice_split is_feed rest ≡ pieces → rest ≡ join_with_byte 10 pieces
+  joined rest pieces is = sym (join_with_byte-slice_split 10 rest) ∙ ap (join_with_byte 10) is
+
+  reads : (ls : List TableLine) (before : Paths) (number : ℕ) (line : List ℕ) (lines : List (List ℕ)) (rest : List ℕ) → IsAt S text ls rest → IsLast ls before → number ≡ length ls + first → slice_split is_feed rest ≡ line ∷ lines → Ends ls (read_lines S before number (line ∷ lines))
+  reads ls before number [] [] rest at last count is =
+      subst (SpellsLines S text) (sym (append-nil ls)) (record { spelled = at_end S text ls rest at (joined rest ([] ∷ []) is); table = at.table })
+  reads ls before number (b ∷ line) [] rest at last count is =
+      bad_at S text ls rest at first number count (λ none. let wrong : [] ∷ [] ≡ (b ∷ line) ∷ [] = ap (slice_split is_feed) (sym none) ∙ is in cc) (unfed S ls rest (b ∷ line) is)
+  reads ls before number line (next ∷ lines) rest at last count is =
+      subst (Ends ls) (sym (read_more S before number line (next ∷ lines) (omega arith)))
+      (by (next_line S before (read_line line)) refl (λ l later more there behind. reads (ls ++ l ∷ []) l.path (number + 1) next lines later there (last_pushed ls l) more behind))
+    where
+      by : (o : Option TableLine) → next_line S before (read_line line) ≡ o
+          → ((l : TableLine) (later : List ℕ) → number + 1 ≡ length (ls ++ l ∷ []) + first → IsAt S text (ls ++ l ∷ []) later → slice_split is_feed later ≡ next ∷ lines → Ends (ls ++ l ∷ []) (read_lines S l.path (number + 1) (next ∷ lines)))
+          → Ends ls (read_on number o (λ l. read_lines S l.path (number + 1) (next ∷ lines)))
+      by None e further =
+          bad_at S text ls rest at first number count (λ none. let wrong : [] ∷ [] ≡ line ∷ next ∷ lines = ap (slice_split is_feed) (sym none) ∙ is in cc)
+          (misread S ls rest line (next ∷ lines) is
+          (λ l read more. false≢true (ap is_some (sym e ∙ (ap (next_line S before) read ∙ next_stands S ls before at.table last l more)))))
+      by (Some l) e further =
+          let follows = next_is S ls before at.table last line (read_line line) l refl e in
+          let later = join_with_byte 10 (next ∷ lines) in
+          let parts : rest ≡ line_of l ++ 10 ∷ later = joined rest (line ∷ next ∷ lines) is ∙ ap (λ t. t ++ 10 ∷ later) follows.is in
+          let both : line ∷ next ∷ lines ≡ line_of l ∷ slice_split is_feed later = sym is ∙ (ap (slice_split is_feed) parts ∙ cut l later) in
+          ends_more ls l (read_lines S l.path (number + 1) (next ∷ lines))
+          (further l later (omega (arith, count, length-append ls (l ∷ []))) (at_more S text ls rest at l later parts follows.more) (let same : next ∷ lines ≡ slice_split is_feed later = cc in sym same))
+
+  text_ends : Ends [] (read_from S first text)
+  text_ends = by (slice_split is_feed text) refl
+    where
+      by : (pieces : List (List ℕ)) → slice_split is_feed text ≡ pieces → Ends [] (read_lines S [] first pieces)
+      by [] is = absurd (omega (arith, some_line text, ap length is))
+      by (line ∷ lines) is = reads [] [] first line lines text (at_start S text) (λ p. refl) (omega arith) is
+
+  pub texts_are_lines : (lines : List TableLine) → read_from S first text ≡ Ok lines → SpellsLines S text lines
+  texts_are_lines lines e = subst (Ends []) e text_ends
+
+  pub bad_line_is_first : (number : ℕ) → read_from S first text ≡ Err number → IsFirstBadOf S first text number
+  bad_line_is_first number e = subst (Ends []) e text_ends
 
 -- ---- different lines
 
@@ -327,130 +344,3 @@ lines_read (l ∷ ls) all =
 
 pub lines_are_readable : (lines others : List TableLine) → All IsLine lines → All IsLine others → lines_text lines ≡ lines_text others → lines ≡ others
 lines_are_readable lines others p q e = sym (lines_read lines p) ∙ (ap (λ t. filter_map read_line (slice_split is_feed t)) e ∙ lines_read others q)
-
--- ---- the first bad line
-
--- each piece of a text that is cut at its line feeds has none
-abbrev pub Feedless : List ℕ → Type 0
-Feedless line = All (λ b. is_feed b ≡ false) line
-
-feedless_first : (b : ℕ) (lines : List (List ℕ)) → is_feed b ≡ false → All Feedless lines → All Feedless (onto_first b lines)
-feedless_first b [] e all = All-cons Feedless (b ∷ []) [] (All-cons (λ b. is_feed b ≡ false) b [] e (All-nil (λ b. is_feed b ≡ false))) (All-nil Feedless)
-feedless_first b (line ∷ lines) e all =
-    All-cons Feedless (b ∷ line) lines (All-cons (λ b. is_feed b ≡ false) b line e (All-head Feedless line lines all)) (All-tail Feedless line lines all)
-
-feedless_by : (t : Bool) (b : ℕ) (lines : List (List ℕ)) → is_feed b ≡ t → All Feedless lines → All Feedless (cond t ([] ∷ lines) (onto_first b lines))
-feedless_by true b lines e all = All-cons Feedless [] lines (All-nil (λ b. is_feed b ≡ false)) all
-feedless_by false b lines e all = feedless_first b lines e all
-
-pieces_feedless : (text : List ℕ) → All Feedless (slice_split is_feed text)
-pieces_feedless [] = All-cons Feedless [] [] (All-nil (λ b. is_feed b ≡ false)) (All-nil Feedless)
-pieces_feedless (b ∷ text) = feedless_by (is_feed b) b (slice_split is_feed text) refl (pieces_feedless text)
-
--- behind a path, no table of so many lines has one line more of the text
-record StopsBehind (S : Setting) (before : List (List ℕ)) (number : ℕ) (text : List ℕ) (n : ℕ) : Type 0 where
-  lines : List TableLine
-  rest : List ℕ
-  parts : text ≡ lines_text lines ++ rest
-  table : IsTableBehind S before lines
-  place : n ≡ length lines + number
-  some : rest ≡ [] → ⊥
-  stops : (l : TableLine) (later : List ℕ) → rest ≡ line_of l ++ 10 ∷ later → IsTableBehind S before (lines ++ l ∷ []) → ⊥
-
-abbrev head_or : List (List ℕ) → List ℕ
-head_or [] = []
-head_or (line ∷ lines) = line
-
-cut : (l : TableLine) (later : List ℕ) → slice_split is_feed (line_of l ++ 10 ∷ later) ≡ line_of l ∷ slice_split is_feed later
-cut l later = slice_split_at is_feed (line_of l) 10 later (line_feedless l) refl
-
--- the first line of a text is one alone
-pub same_line : (line text : List ℕ) (l : TableLine) (later : List ℕ) → Feedless line → line ++ 10 ∷ text ≡ line_of l ++ 10 ∷ later → line ≡ line_of l
-same_line line text l later none e =
-    ap head_or (sym (slice_split_at is_feed line 10 text none refl) ∙ (ap (slice_split is_feed) e ∙ cut l later))
-
-pub no_feed : (line : List ℕ) (l : TableLine) (later : List ℕ) → Feedless line → line ≡ line_of l ++ 10 ∷ later → ⊥
-no_feed line l later none e =
-    let lines : line ∷ [] ≡ line_of l ∷ slice_split is_feed later = sym (slice_split_none is_feed line none) ∙ (ap (slice_split is_feed) e ∙ cut l later) in
-    let some = some_line later in
-    let count : 1 ≡ 1 + length (slice_split is_feed later) = ap length lines ∙ omega arith in
-    omega arith
-
--- a line that lacks its line feed
-lacks_feed : (S : Setting) (before : List (List ℕ)) (number b n : ℕ) (line : List ℕ) → Feedless (b ∷ line) → number ≡ n → StopsBehind S before number (b ∷ line) n
-lacks_feed S before number b n line none e =
-    record {
-      lines = [];
-      rest = b ∷ line;
-      parts = refl;
-      table = no_links S before;
-      place = omega (arith, e);
-      some = λ (e : b ∷ line ≡ []). cc;
-      stops = λ l later e t. no_feed (b ∷ line) l later none e;
-    }
-
-not_empty : (line text : List ℕ) → line ++ 10 ∷ text ≡ [] → ⊥
-not_empty line text e = let long : length (line ++ 10 ∷ text) ≡ 0 = ap length e in omega (arith, length-append line (10 ∷ text))
-
--- a line that gives no link which can follow
-gives_none : (S : Setting) (before : List (List ℕ)) (number n : ℕ) (line text : List ℕ) → Feedless line → next_line S before (read_line line) ≡ None → number ≡ n → StopsBehind S before number (line ++ 10 ∷ text) n
-gives_none S before number n line text none e same =
-    record {
-      lines = [];
-      rest = line ++ 10 ∷ text;
-      parts = refl;
-      table = no_links S before;
-      place = omega (arith, same);
-      some = λ f. not_empty line text f;
-      stops = λ l later f t.
-          let here = same_line line text l later none f in
-          let read : read_line line ≡ Some l = ap read_line here ∙ line_read l (All-head IsLine l [] t.valid) in
-          false≢true (ap is_some (sym e ∙ (ap (next_line S before) read ∙ first_stands S before l [] t)));
-    }
-
-first_err : (l : TableLine) (r : Result (List TableLine) ℕ) (n : ℕ) → with_first l r ≡ Err n → r ≡ Err n
-first_err l (Ok later) n e = absurd (false≢true (sym (ap is_ok e)))
-first_err l (Err m) n e = cc
-
--- a line that gives a link, and a bad one behind it
-stops_later : (S : Setting) (before : List (List ℕ)) (number n : ℕ) (line text : List ℕ) (l : TableLine) → next_line S before (read_line line) ≡ Some l → StopsBehind S l.path (number + 1) text n → StopsBehind S before number (line ++ 10 ∷ text) n
-stops_later S before number n line text l e s =
-    let follows = next_is S before (read_line line) l e in
-    let here = line_is line l follows.was in
-    record {
-      lines = l ∷ s.lines;
-      rest = s.rest;
-      parts =
-          ap (λ t. t ++ 10 ∷ text) here.spelled
-          ∙ (ap (λ t. line_of l ++ 10 ∷ t) s.parts
-          ∙ (sym (append_assoc (line_of l) (10 ∷ []) (lines_text s.lines ++ s.rest)) ∙ sym (append_assoc (line_of l ++ 10 ∷ []) (lines_text s.lines) s.rest)));
-      table = one_more S before (read_line line) l s.lines here.valid follows s.table;
-      place = omega (arith, s.place);
-      some = s.some;
-      stops = λ k later f t. s.stops k later f (others_stand S before l (s.lines ++ k ∷ []) t);
-    }
-
-stops_by : (S : Setting) (before : List (List ℕ)) (number n : ℕ) (line text : List ℕ) (o : Option TableLine) (further : TableLine → Result (List TableLine) ℕ) → Feedless line → next_line S before (read_line line) ≡ o
-    → ((l : TableLine) → further l ≡ Err n → StopsBehind S l.path (number + 1) text n) → read_on number o further ≡ Err n → StopsBehind S before number (line ++ 10 ∷ text) n
-stops_by S before number n line text None further none is later e = gives_none S before number n line text none is cc
-stops_by S before number n line text (Some l) further none is later e = stops_later S before number n line text l is (later l (first_err l (further l) n e))
-
-bad_is : (S : Setting) (before : List (List ℕ)) (number n : ℕ) (lines : List (List ℕ)) → All Feedless lines → read_lines S before number lines ≡ Err n → StopsBehind S before number (join_with_byte 10 lines) n
-bad_is S before number n [] all e = absurd (false≢true (sym (ap is_ok e)))
-bad_is S before number n ([] ∷ []) all e = absurd (false≢true (sym (ap is_ok e)))
-bad_is S before number n ((b ∷ line) ∷ []) all e = lacks_feed S before number b n line (All-head Feedless (b ∷ line) [] all) cc
-bad_is S before number n (line ∷ next ∷ lines) all e =
-    stops_by S before number n line (join_with_byte 10 (next ∷ lines)) (next_line S before (read_line line)) (λ link. read_lines S link.path (number + 1) (next ∷ lines))
-    (All-head Feedless line (next ∷ lines) all) refl (λ l f. bad_is S l.path (number + 1) n (next ∷ lines) (All-tail Feedless line (next ∷ lines) all) f)
-    (sym (read_more S before number line (next ∷ lines) (omega arith)) ∙ e)
-
-pub bad_line_is_first : (S : Setting) (first : ℕ) (text : List ℕ) (number : ℕ) → read_from S first text ≡ Err number → IsFirstBadOf S first text number
-bad_line_is_first S first text number e =
-    let s = bad_is S [] first number (slice_split is_feed text) (pieces_feedless text) e in
-    record {
-      lines = s.lines;
-      rest = s.rest;
-      parts = sym (join_with_byte-slice_split 10 text) ∙ s.parts;
-      table = s.table;
-      bad = record { place = s.place; some = s.some; stops = s.stops };
-    }

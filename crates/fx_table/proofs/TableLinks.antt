@@ -1,26 +1,9 @@
 -- The lines of a whole filestore are a table over the rest of it.
-use Rattle.std.proofs.Common.{◌≡◌, ℕ, suc, ◌-◌, ◌<◌, true, false, cond, List, [], ◌∷◌, ◌++◌, length, take, map, get_or, refl, sym, ap, subst, ◌∙◌, arith, Option, Some, None, IsSome, is_some, All, Bool}
-use Rattle.std.specs.Prelude.{IfSome, IsTrue}
-use Rattle.std.specs.Ordering.{eq_by_cmp, is_eq, ordering_reverse}
-use Rattle.std.specs.declared.cmp.Ordering.TheVariants.{Less}
+use Rattle.fx_table.proofs.Prelude.{◌≡◌, ℕ, suc, ◌-◌, ◌<◌, true, false, cond, List, [], ◌∷◌, ◌++◌, length, take, map, get_or, refl, sym, ap, subst, ◌∙◌, arith, Option, Some, None, IsSome, is_some, All, Bool, IfSome, IsTrue, eq_by_cmp, is_eq, ordering_reverse, Less, filter_map, AllByRecursion, IsStrictlySortedBy, keys_of, get, entries, find, get-entries, entries_sorted, false≢true, All-nil, All-cons, strictly_sorted, Node, File, Dir, Link, path_cmp, IsPath, path_total, Store, Nodes, IsWhole, IsNode, lists, root_first, Target, Executable, TableLine, line_at, lines_of, is_dir, is_file, can_stand, has_place, IsMark, IsLine, IsTable, but_no_link, unlinked}
 use Rattle.std.specs.Cmp.{eq_by_cmp_equiv}
-use Rattle.std.specs.List.{filter_map, AllByRecursion}
-use Rattle.std.specs.List.Sorted.{IsStrictlySortedBy}
-use Rattle.std.specs.Map.{keys_of}
-use Rattle.std.specs.FinMap.{get, entries, find, get-entries, entries_sorted}
-use Rattle.std.proofs.lemmas.Bool.{false≢true}
-use Rattle.std.proofs.lemmas.List.Elements.{All-nil, All-cons}
 use Rattle.std.proofs.Math.Seq.{take-length, take-suc}
-use Rattle.fx_outside.proofs.Sorted.{strictly_sorted}
-use Rattle.fx_store.specs.declared.node.Node.{Node}
-use Rattle.fx_store.specs.declared.node.Node.TheVariants.{File, Dir, Link}
-use Rattle.fx_store.specs.Names.{path_cmp, IsPath}
-use Rattle.fx_store.specs.Orders.{path_total}
 use Rattle.fx_store.specs.Resolve.{parent}
-use Rattle.fx_store.specs.Whole.{Store, Nodes, IsWhole, IsNode, lists}
-use Rattle.fx_store.proofs.PathLists.{root_first}
-use Rattle.fx_table.specs.Table.{Target, Executable, TableLine, line_at, lines_of, is_dir, is_file, can_stand, over, has_place, IsMark, IsLine, IsTable}
-use Rattle.fx_table.specs.TableLaws.{but_no_link, unlinked}
+use Rattle.fx_table.specs.Table.{over}
 
 abbrev Paths : Type 0
 Paths = List (List ℕ)

@@ -1,11 +1,6 @@
 -- A spelled text is read back, and no other spelling of its bytes is.
-use Rattle.std.proofs.Common.{◌≡◌, ℕ, ◌+◌, ◌*◌, ◌/◌, ◌%◌, ◌<◌, ◌≤◌, Bool, true, false, cond, eqb, List, [], ◌∷◌, ◌++◌, refl, sym, ap, subst, ◌∙◌, arith, Option, Some, None, inl, inr, All}
-use Rattle.std.specs.Prelude.{is_some}
+use Rattle.fx_table.proofs.Prelude.{◌≡◌, ℕ, ◌+◌, ◌*◌, ◌/◌, ◌%◌, ◌<◌, ◌≤◌, Bool, true, false, cond, eqb, List, [], ◌∷◌, ◌++◌, refl, sym, ap, subst, ◌∙◌, arith, Option, Some, None, inl, inr, All, is_some, false≢true, eqb-true, cases_Bool, nat_tests, All-nil, All-cons, All-head, All-tail, All-append, is_plain_byte, spelled, spelling, plain_byte, upper_digit_value, escaped, byte_before, unspelled}
 use Rattle.std.specs.Fmt.{digit_glyph}
-use Rattle.std.proofs.lemmas.Bool.{false≢true, eqb-true, cases_Bool}
-use Rattle.std.proofs.lemmas.Bool.Decides.{nat_tests}
-use Rattle.std.proofs.lemmas.List.Elements.{All-nil, All-cons, All-head, All-tail, All-append}
-use Rattle.fx_table.specs.TableSpelling.{is_plain_byte, spelled, spelling, plain_byte, upper_digit_value, escaped, byte_before, unspelled}
 
 -- ---- digits
 

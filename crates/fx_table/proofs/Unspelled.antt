@@ -1,8 +1,5 @@
 -- A spelled text is read byte by byte.
-use Rattle.std.proofs.Common.{◌≡◌, ℕ, ◌+◌, List, [], ◌∷◌, ◌++◌, drop, Option, Some, None, option_map, refl, sym, ◌∙◌, ap, append_assoc}
-use Rattle.std.proofs.lemmas.List.{drop-drop}
-use Rattle.fx_table.specs.TableSpelling.{byte_before, unspelled}
-use Rattle.fx_table.specs.Unspells.{SpellsByte}
+use Rattle.fx_table.proofs.Prelude.{◌≡◌, ℕ, ◌+◌, List, [], ◌∷◌, ◌++◌, drop, Option, Some, None, option_map, refl, sym, ◌∙◌, ap, append_assoc, drop-drop, byte_before, unspelled, SpellsByte}
 
 -- bytes before those that are still to be read
 abbrev pub joined : List ℕ → Option (List ℕ) → Option (List ℕ)

@@ -1,15 +1,8 @@
 -- Tables of both versions: the text of one is read as its lines, and no other text is.
-use Rattle.std.proofs.Common.{◌≡◌, inl, inr, ℕ, zero, suc, Bool, true, false, cond, not, ◌&&◌, ◌||◌, IsTrue, List, [], ◌∷◌, ◌++◌, take, drop, refl, sym, ap, subst, ◌∙◌, Result, Ok, Err, append-nil, All}
-use Rattle.std.specs.Prelude.{is_ok}
-use Rattle.std.proofs.lemmas.Bool.{false≢true, not-false, or_parts}
+use Rattle.fx_table.proofs.Prelude.{◌≡◌, inl, inr, ℕ, Bool, true, false, cond, not, ◌&&◌, ◌||◌, List, [], ◌∷◌, ◌++◌, take, drop, refl, sym, ap, subst, ◌∙◌, Result, Ok, Err, append-nil, All, is_ok, false≢true, not-false, or_parts, take-append-drop, All-nil, All-cons, All-head, All-tail, All-weaker, Store, Mark, Target, Executable, TableLine, mark_text, lines_text, is_flag_mark, has_flags, version_line, table_text, can_mark, read_from, is_second, body_of, first_number, setting_of, read_body, lacks_flags, unless_lacking, read_table, IsLine, AreLinesOver, IsTable, SpellsTable, IsFirstBadOf, IsFirstBadLine, spelling, path_text}
 use Rattle.std.proofs.lemmas.Slice.Eq.{bytes_eq-Decides}
-use Rattle.std.proofs.lemmas.List.Elements.{All-nil, All-cons, All-head, All-tail}
-use Rattle.fx_store.specs.Whole.{Store}
-use Rattle.fx_table.specs.Table.{Mark, Target, Executable, TableLine, mark_text, lines_text, is_flag_mark, has_flags, version_line, table_text, Setting, over, has_place, can_mark, read_from, is_second, body_of, first_number, setting_of, read_body, lacks_flags, unless_lacking, read_table, IsLine, AreLinesOver, IsTable}
-use Rattle.fx_table.specs.TableLaws.{SpellsTable, IsFirstBadOf, IsFirstBadLine}
-use Rattle.fx_table.specs.TableSpelling.{spelling}
-use Rattle.fx_store.specs.Names.{path_text}
-use Rattle.fx_table.proofs.TableLines.{lines_are_read, texts_are_lines, lines_are_readable, bad_line_is_first}
+use Rattle.fx_table.specs.Table.{over}
+use Rattle.fx_table.proofs.TableLines.{Stands, lines_are_read, texts_are_lines, lines_are_readable, bad_line_is_first}
 
 -- ---- the version of a text
 
@@ -35,15 +28,9 @@ second_is lines = second_by (has_flags lines) lines
 pub body_is : (lines : List TableLine) → body_of (table_text lines) ≡ lines_text lines
 body_is lines = body_by (has_flags lines) lines
 
-take_drop : (n : ℕ) (xs : List ℕ) → take n xs ++ drop n xs ≡ xs
-take_drop zero [] = refl
-take_drop zero (x ∷ xs) = refl
-take_drop (suc n) [] = refl
-take_drop (suc n) (x ∷ xs) = ap (λ l. x ∷ l) (take_drop n xs)
-
 -- a text is the line of its version, if it has one, and the lines behind that
 split_by : (text : List ℕ) (b : Bool) → is_second text ≡ b → text ≡ cond b version_line [] ++ cond b (drop 10 text) text
-split_by text true is = sym (take_drop 10 text) ∙ ap (λ t. t ++ drop 10 text) ((bytes_eq-Decides (take 10 text) version_line).0 is)
+split_by text true is = sym (take-append-drop 10 text) ∙ ap (λ t. t ++ drop 10 text) ((bytes_eq-Decides (take 10 text) version_line).0 is)
 split_by text false is = refl
 
 pub split : (text : List ℕ) → text ≡ cond (is_second text) version_line [] ++ body_of text
@@ -64,9 +51,6 @@ no_mark : (S : Store) (path : List (List ℕ)) (mark : Mark) → can_mark (over 
 no_mark S path (Target text) can = refl
 no_mark S path Executable can = absurd (false≢true can)
 
-abbrev Stands : Setting → TableLine → Type 0
-Stands S l = IsTrue (has_place S l)
-
 stand_without : (S : Store) (lines : List TableLine) → has_flags lines ≡ false → All (Stands (over S true)) lines → All (Stands (over S false)) lines
 stand_without S [] none all = All-nil (Stands (over S false))
 stand_without S (l ∷ lines) none all =
@@ -74,9 +58,7 @@ stand_without S (l ∷ lines) none all =
     All-cons (Stands (over S false)) l lines (marks_without S l.path l.mark both.0 (All-head (Stands (over S true)) l lines all)) (stand_without S lines both.1 (All-tail (Stands (over S true)) l lines all))
 
 stand_with : (S : Store) (flags : Bool) (lines : List TableLine) → All (Stands (over S flags)) lines → All (Stands (over S true)) lines
-stand_with S flags [] all = All-nil (Stands (over S true))
-stand_with S flags (l ∷ lines) all =
-    All-cons (Stands (over S true)) l lines (marks_with S flags l.path l.mark (All-head (Stands (over S flags)) l lines all)) (stand_with S flags lines (All-tail (Stands (over S flags)) l lines all))
+stand_with S flags lines all = All-weaker (Stands (over S flags)) (Stands (over S true)) (λ l can. marks_with S flags l.path l.mark can) lines all
 
 none_flagged : (S : Store) (lines : List TableLine) → All (Stands (over S false)) lines → has_flags lines ≡ false
 none_flagged S [] all = refl

@@ -1,5 +1,6 @@
 -- What the reader of a table answers, line by line.
-use Rattle.std.specs.Prelude.{◌≡◌, ℕ, ◌+◌, ◌-◌, ◌<◌, ◌≤◌, ◌==◌, Bool, true, false, not, ◌||◌, nat_lt, List, [], ◌∷◌, ◌++◌, map, length, take, drop, sum_by, All, IsTrue, unwrap_or, Option, Some, None, ⊤}
+use Rattle.std.specs.Prelude.{◌≡◌, ℕ, ◌-◌, ◌<◌, ◌==◌, Bool, true, false, not, ◌||◌, nat_lt, List, [], ◌∷◌, ◌++◌, map, length, sum_by, IsTrue, unwrap_or, Option, Some, None, ⊤}
+use Rattle.std.specs.List.{slice_split}
 use Rattle.std.specs.List.Sorted.{IsStrictlySortedBy}
 use Rattle.fx_store.specs.declared.node.Node.{Node}
 use Rattle.fx_store.specs.declared.node.Node.TheVariants.{File, Dir, Link}
@@ -60,18 +61,10 @@ pub record AreLines (s : Setting) (changes : List Change) : Type 0 where
 abbrev pub standing_by : List Change → Store
 standing_by changes path = unwrap_or (change_at changes path) None
 
--- the first place of a byte, if there is any
-abbrev pub IsAbsent : ℕ → List ℕ → Type 0
-IsAbsent byte text = All (λ b. (b == byte) ≡ false) text
-
-pub record IsFirstAt (text : List ℕ) (byte i : ℕ) : Type 0 where
-  pub within : i < length text
-  pub before : IsAbsent byte (take i text)
-  pub parts : text ≡ take i text ++ byte ∷ drop (i + 1) text
-
-abbrev pub FindsFirst : List ℕ → ℕ → Option ℕ → Type 0
-FindsFirst text byte None = IsAbsent byte text
-FindsFirst text byte (Some i) = IsFirstAt text byte i
+-- a text is cut at the first byte of this value
+pub record IsCut (byte : ℕ) (text first rest : List ℕ) : Type 0 where
+  pub whole : text ≡ first ++ byte ∷ rest
+  pub parts : slice_split (λ b. b == byte) text ≡ first ∷ slice_split (λ b. b == byte) rest
 
 -- a line at the path can follow these
 pub record CanFollow (s : Setting) (changes : List Change) (line : TableLine) : Type 0 where
@@ -108,35 +101,32 @@ pub record TakesRoom (old : Room) (mark : Mark) (new : Room) (takes : Bool) : Ty
   pub left : takes ≡ true → new ≡ room_less old mark
 
 -- a line at the front of a text can follow
-pub record IsNextLine (s : Setting) (text : List ℕ) (old : List Change) (line : TableLine) (n : ℕ) : Type 0 where
-  pub spelled : text ≡ line_of line ++ 10 ∷ drop n text
-  pub some : 0 < n
-  pub within : n ≤ length text
+pub record IsNextLine (s : Setting) (text : List ℕ) (old : List Change) (line : TableLine) (rest : List ℕ) : Type 0 where
+  pub spelled : text ≡ line_of line ++ 10 ∷ rest
   pub table : AreLinesOver s (lines_in old ++ line ∷ [])
 
--- so many bytes are read of a text
-pub record ReadsNext (s : Setting) (room : Room) (text : List ℕ) (old new : List Change) (room' : Room) (n : ℕ) : Type 0 where
+-- the first line of a text is read, and this is left
+pub record ReadsNext (s : Setting) (room : Room) (text : List ℕ) (old new : List Change) (room' : Room) (rest : List ℕ) : Type 0 where
   pub line : TableLine
-  pub next : IsNextLine s text old line n
+  pub next : IsNextLine s text old line rest
   pub made : new ≡ old ++ line_change line ∷ []
-  pub few : is_over_by room (line ∷ []) ≡ false
-  pub left : room' ≡ room_less room line.mark
+  pub takes : TakesRoom room line.mark room' true
 
 pub record IsOver (s : Setting) (room : Room) (text : List ℕ) (old : List Change) : Type 0 where
   pub line : TableLine
-  pub count : ℕ
-  pub next : IsNextLine s text old line count
+  pub rest : List ℕ
+  pub next : IsNextLine s text old line rest
   pub many : is_over_by room (line ∷ []) ≡ true
 
 -- no line at the front of the text can follow
-abbrev pub IsStopped : Setting → List ℕ → List Change → Type 0
-IsStopped s text old = (line : TableLine) (later : List ℕ) → text ≡ line_of line ++ 10 ∷ later → AreLinesOver s (lines_in old ++ line ∷ []) → ⊥
+abbrev pub IsStopped : Setting → List ℕ → List TableLine → Type 0
+IsStopped s text lines = (line : TableLine) (later : List ℕ) → text ≡ line_of line ++ 10 ∷ later → AreLinesOver s (lines ++ line ∷ []) → ⊥
 
 abbrev pub StopsNext : Setting → Room → List ℕ → ℕ → List Change → LoadFault → Type 0
 StopsNext s room text number old (Refused (BadName place)) = ⊥
 StopsNext s room text number old (Refused (Strange place)) = ⊥
 StopsNext s room text number old (Refused (TooLarge place)) = (place ≡ place_of (table_name ∷ [])) × IsOver s room text old
-StopsNext s room text number old (Refused (BadTable n)) = (n ≡ number) × IsStopped s text old
+StopsNext s room text number old (Refused (BadTable n)) = (n ≡ number) × IsStopped s text (lines_in old)
 StopsNext s room text number old ReadFault = ⊥
 StopsNext s room text number old NoMemory = ⊤
 

@@ -4,7 +4,7 @@ use Rattle.fx_store.specs.declared.name.PathFault.{PathFault}
 use Rattle.fx_store.specs.declared.path.Path.{Path}
 use Rattle.fx_store.specs.declared.link.LinkText.{LinkText}
 use Rattle.fx_store.specs.Faults.{read_path, read_link}
-use Rattle.fx_table.specs.Table.{TableLine, link_of, flag_of}
+use Rattle.fx_table.specs.Table.{TableLine, Target, Executable}
 use Rattle.fx_table.specs.TableSpelling.{byte_before, unspelled}
 
 -- a byte, and the characters behind those that spell it
@@ -33,9 +33,18 @@ GivesPath bytes path = path ≡ read_of read_path bytes
 abbrev pub GivesText : Option (List ℕ) → Option LinkText → Type 0
 GivesText bytes text = text ≡ read_of read_link bytes
 
--- the line of a path and of what it leads to, or of a path alone
+-- the line of a path and of what it leads to, or of a path alone, if they could be read
+abbrev pub link_by : Option (List (List ℕ)) → Option (List ℕ) → Option TableLine
+link_by None text = None
+link_by (Some path) None = None
+link_by (Some path) (Some text) = Some (record { path = path; mark = Target text })
+
+abbrev pub flag_by : Option (List (List ℕ)) → Option TableLine
+flag_by None = None
+flag_by (Some path) = Some (record { path = path; mark = Executable })
+
 abbrev pub GivesLink : Option (List ℕ) → Option (List ℕ) → Option TableLine → Type 0
-GivesLink path text line = line ≡ link_of path text
+GivesLink path text line = line ≡ link_by (read_of read_path path) (read_of read_link text)
 
 abbrev pub GivesFlag : Option (List ℕ) → Option TableLine → Type 0
-GivesFlag path line = line ≡ flag_of path
+GivesFlag path line = line ≡ flag_by (read_of read_path path)

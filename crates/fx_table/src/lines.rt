@@ -1,8 +1,9 @@
 //! The reader of a table's lines.
-ghost use Rattle.std.specs.Prelude.{◌≡◌, ◌≤◌, ◌∷◌, [], ◌&&◌, cond, not, IfOk, IfErr};
+ghost use Rattle.std.specs.Prelude.{◌≡◌, ◌≤◌, ◌==◌, ◌∷◌, [], ◌&&◌, cond, not, MatchOption, IfOk, IfErr};
+ghost use Rattle.std.specs.List.{slice_split};
 ghost use Rattle.fx_store.specs.Whole.{Store};
-ghost use Rattle.fx_table.specs.Table.{can_stand, is_file, over, has_flags, is_second, body_of, has_place, is_flag_mark, read_line, read_parts, Target};
-ghost use Rattle.fx_table.specs.Lines.{FindsFirst, DecidesFollow, AreLines, ReadsNext, StopsNext, ReadsBody, BodyCause, ReadsAll, LinesCause, TakesRoom, line_change, lines_in, mark_in, mark_node};
+ghost use Rattle.fx_table.specs.Table.{can_stand, is_file, over, has_flags, is_second, body_of, has_place, is_flag_mark, is_space, read_line, read_parts, Target};
+ghost use Rattle.fx_table.specs.Lines.{IsCut, DecidesFollow, AreLines, ReadsNext, StopsNext, ReadsBody, BodyCause, ReadsAll, LinesCause, TakesRoom, line_change, lines_in, mark_in, mark_node};
 ghost use Rattle.fx_table.specs.Places.{place_of, table_name};
 
 use crate::line::{Mark, TableLine};
@@ -140,43 +141,35 @@ fn read_body<G: Ground>(
 {
     let mut lines = Changes::new(alloc);
     let mut room = room;
-    let mut at = 0;
+    let mut rest = text;
     let mut number = first;
-    'reading: while at < text.len() {
-        at += next_line(
-            alloc,
-            &text[at..],
-            number,
-            ground,
-            flags,
-            &mut room,
-            &mut lines,
-        )?;
+    'reading: while !rest.is_empty() {
+        rest = next_line(alloc, rest, number, ground, flags, &mut room, &mut lines)?;
         number += 1;
     }
     Ok(lines)
 }
 
-/// Reads the first line of a text, and gives how many bytes it has with its line feed.
-fn next_line<G: Ground>(
+/// Reads the first line of a text, and gives what stands behind its line feed.
+fn next_line<'a, G: Ground>(
     alloc: Global,
-    text: &[u8],
+    text: &'a [u8],
     number: u64,
     ground: &G,
     flags: bool,
     room: &mut Room,
     lines: &mut Changes,
-) -> Result<usize, LoadFault>
+) -> Result<&'a [u8], LoadFault>
     requires { AreLines (over (G.store ground.now) flags) lines.old }
-    ensures read { IfOk result (ReadsNext (over (G.store ground.now) flags)
-        room.old text.now lines.old lines.new room.new) }
+    ensures read { IfOk result (λ rest. ReadsNext (over (G.store ground.now) flags)
+        room.old text.now lines.old lines.new room.new rest.now) }
     ensures cause { IfErr result
         (StopsNext (over (G.store ground.now) flags) room.old text.now number lines.old) }
 {
-    let Some(end) = place_in(text, b'\n') else {
+    let Some((line, rest)) = split_once(text, b'\n') else {
         return Err(LoadFault::Refused(FolderCause::BadTable(number)));
     };
-    let Some(line) = read_line(alloc, &text[..end])? else {
+    let Some(line) = read_line(alloc, line)? else {
         return Err(LoadFault::Refused(FolderCause::BadTable(number)));
     };
     if !can_follow(alloc, ground, flags, lines, &line)? {
@@ -186,7 +179,7 @@ fn next_line<G: Ground>(
         return Err(LoadFault::Refused(FolderCause::TooLarge(table_place(alloc)?)));
     }
     lines.add(alloc, change_of(alloc, line))?;
-    Ok(end + 1)
+    Ok(rest)
 }
 
 /// The change that stands for a line.
@@ -212,37 +205,59 @@ fn node_of(alloc: Global, mark: Mark) -> Node
     }
 }
 
-/// The first place of a byte.
-fn place_in(text: &[u8], byte: u8) -> Option<usize>
-    ensures { FindsFirst text.now byte result }
+/// The text before the first byte of this value, and the text behind it.
+fn split_once(text: &[u8], byte: u8) -> Option<(&[u8], &[u8])>
+    ensures { MatchOption result (slice_split (λ b. b == byte) text.now ≡ text.now ∷ [])
+        (λ cut. IsCut byte text.now cut.0.now cut.1.now) }
 {
-    for i in 0..text.len() {
-        if text[i] == byte {
-            return Some(i);
-        }
-    }
-    None
+    let Some(i) = text.iter().position(|b| *b == byte) else {
+        return None;
+    };
+    Some((&text[..i], &text[i + 1..]))
 }
 
 /// What a line says: a spelled path text, and a star or an arrow and a spelled link text, with a space between each two.
 fn read_line(alloc: Global, line: &[u8]) -> Result<Option<TableLine>, NoMemory>
     ensures { IfOk result (λ said. said ≡ read_line line.now) }
 {
-    let Some(i) = place_in(line, b' ') else {
+    let Some((path, rest)) = split_once(line, b' ') else {
         return Ok(None);
     };
-    let rest = &line[i + 1..];
-    let Some(j) = place_in(rest, b' ') else {
-        return read_flag(alloc, &line[..i], rest);
-    };
-    if &rest[..j] != b"->".as_slice() {
+    match split_once(rest, b' ') {
+        Some((arrow, text)) => read_link(alloc, path, arrow, text),
+        None => read_flag(alloc, path, rest),
+    }
+}
+
+/// What a line of three parts or more says, of which those behind the second are still to be cut.
+fn read_link(
+    alloc: Global,
+    path: &[u8],
+    arrow: &[u8],
+    text: &[u8],
+) -> Result<Option<TableLine>, NoMemory>
+    ensures { IfOk result (λ said. said
+        ≡ read_parts (path.now ∷ arrow.now ∷ slice_split is_space text.now)) }
+{
+    match split_once(text, b' ') {
+        Some((_, _)) => Ok(None),
+        None => read_arrow(alloc, path, arrow, text),
+    }
+}
+
+/// What a line of three parts says: a spelled path text, an arrow and a spelled link text.
+fn read_arrow(
+    alloc: Global,
+    path: &[u8],
+    arrow: &[u8],
+    text: &[u8],
+) -> Result<Option<TableLine>, NoMemory>
+    ensures { IfOk result (λ said. said ≡ read_parts (path.now ∷ arrow.now ∷ text.now ∷ [])) }
+{
+    if arrow != b"->".as_slice() {
         return Ok(None);
     }
-    let text = &rest[j + 1..];
-    match place_in(text, b' ') {
-        Some(_) => Ok(None),
-        None => link_of(alloc, &line[..i], text),
-    }
+    link_of(alloc, path, text)
 }
 
 /// What a line of two parts says: a spelled path text, and a star.

@@ -1,17 +1,35 @@
-use Rattle.std.proofs.Common.{◌+◌, ◌++◌, ◌∷◌, [], ap, refl, sym, subst, ◌∙◌}
-use Rattle.fx_table.specs.Lines.{TakesRoom}
+use Rattle.std.proofs.Common.{◌++◌, ◌∷◌, [], ap, refl, sym, subst, ◌∙◌}
+use Rattle.fx_table.specs.Lines.{TakesRoom, lines_in}
 use Rattle.fx_table.specs.Table.{over}
-use Rattle.fx_table.proofs.Lining.{bad_line, bad_place, next_line, over_next, reads_next}
+use Rattle.fx_table.proofs.Lining.{bad_line, bad_place, next_line, over_of}
+use Rattle.fx_table.proofs.TableLines.{unfed}
 use Rattle.fx_table.proofs.lines.next_line.Goals as goal
 
+pub returns-in_default-clause-cause : goal.returns-in_default-clause-cause
+returns-in_default-clause-cause g c = (refl, unfed (over (g.G.Ground.store c.args.ground.now) c.args.flags) (lines_in c.args.lines.now) c.args.text.now _ c.in_default.ensures)
+
 pub returns-in_default-2-clause-cause : goal.returns-in_default-2-clause-cause
-returns-in_default-2-clause-cause g c = (refl, bad_line (over (g.G.Ground.store c.args.ground.now) c.args.flags) c.args.text.now c.in-Some.end c.args.lines.now c.in-Some.ensures (sym c.in_default-2.is ∙ c.in_ok-line.ensures))
+returns-in_default-2-clause-cause g c = (refl, bad_line (over (g.G.Ground.store c.args.ground.now) c.args.flags) c.args.text.now c.in-Some.line.now c.in-Some.rest.now c.args.lines.now c.in-Some.ensures (sym c.in_default-2.is ∙ c.in_ok-line.ensures))
 
 pub returns-then-not-branch-clause-cause : goal.returns-then-not-branch-clause-cause
-returns-then-not-branch-clause-cause g c = (refl, bad_place (over (g.G.Ground.store c.args.ground.now) c.args.flags) c.args.text.now c.in-Some.end c.args.lines.now c.in-Some-2.line c.in-Some.ensures (sym c.in-Some-2.is ∙ c.in_ok-line.ensures) (c.in_ok-can_follow.ensures.fails c.if-not-branch.true))
+returns-then-not-branch-clause-cause g c = (refl, bad_place (over (g.G.Ground.store c.args.ground.now) c.args.flags) c.args.text.now c.in-Some.line.now c.in-Some.rest.now c.args.lines.now c.in-Some.ensures c.in-Some-2.line (sym c.in-Some-2.is ∙ c.in_ok-line.ensures) (c.in_ok-can_follow.ensures.fails c.if-not-branch.true))
 
 pub returns-then-not-takes-clause-cause : goal.returns-then-not-takes-clause-cause
-returns-then-not-takes-clause-cause g c = (c.in_ok-table_place.ensures, over_next (over (g.G.Ground.store c.args.ground.now) c.args.flags) c.args.room.now c.args.text.now c.in-Some.end c.args.lines.now c.in-Some-2.line c.takes.new.self (next_line (over (g.G.Ground.store c.args.ground.now) c.args.flags) c.args.text.now c.in-Some.end c.args.lines.now c.in-Some-2.line c.requires c.in-Some.ensures (sym c.in-Some-2.is ∙ c.in_ok-line.ensures) (c.in_ok-can_follow.ensures.holds c.if-not-branch.false)) (subst (TakesRoom c.args.room.now c.in-Some-2.line.mark c.takes.new.self) c.if-not-takes.true c.takes.ensures))
+returns-then-not-takes-clause-cause g c =
+    let takes = subst (TakesRoom c.args.room.now c.in-Some-2.line.mark c.takes.new.self) c.if-not-takes.true c.takes.ensures in (
+      c.in_ok-table_place.ensures,
+      record {
+        line = c.in-Some-2.line;
+        rest = c.in-Some.rest.now;
+        next = next_line (over (g.G.Ground.store c.args.ground.now) c.args.flags) c.args.text.now c.in-Some.line.now c.in-Some.rest.now c.args.lines.now c.in-Some.ensures c.in-Some-2.line (sym c.in-Some-2.is ∙ c.in_ok-line.ensures) c.requires (c.in_ok-can_follow.ensures.holds c.if-not-branch.false);
+        many = over_of c.args.room.now c.in-Some-2.line.path c.in-Some-2.line.mark ∙ takes.over;
+      },
+    )
 
 pub returns-clause-read : goal.returns-clause-read
-returns-clause-read g c = reads_next (over (g.G.Ground.store c.args.ground.now) c.args.flags) c.args.room.now c.args.text.now c.in-Some.end (c.in-Some.end + 1) c.args.lines.now c.add.new.self c.in-Some-2.line c.takes.new.self (next_line (over (g.G.Ground.store c.args.ground.now) c.args.flags) c.args.text.now c.in-Some.end c.args.lines.now c.in-Some-2.line c.requires c.in-Some.ensures (sym c.in-Some-2.is ∙ c.in_ok-line.ensures) (c.in_ok-can_follow.ensures.holds c.if-not-branch.false)) (subst (TakesRoom c.args.room.now c.in-Some-2.line.mark c.takes.new.self) c.if-not-takes.false c.takes.ensures) refl (c.in_ok-add.ensures.ok ∙ ap (λ d. c.args.lines.now ++ d ∷ []) c.change_of.ensures)
+returns-clause-read g c = record {
+  line = c.in-Some-2.line;
+  next = next_line (over (g.G.Ground.store c.args.ground.now) c.args.flags) c.args.text.now c.in-Some.line.now c.in-Some.rest.now c.args.lines.now c.in-Some.ensures c.in-Some-2.line (sym c.in-Some-2.is ∙ c.in_ok-line.ensures) c.requires (c.in_ok-can_follow.ensures.holds c.if-not-branch.false);
+  made = c.in_ok-add.ensures.ok ∙ ap (λ d. c.args.lines.now ++ d ∷ []) c.change_of.ensures;
+  takes = subst (TakesRoom c.args.room.now c.in-Some-2.line.mark c.takes.new.self) c.if-not-takes.false c.takes.ensures;
+}
