@@ -1,6 +1,3 @@
-use Rattle.std.proofs.Common.{List, ℕ, ◌∷◌, [], ap, ◌∙◌}
-use Rattle.fx_store.specs.declared.node.Node.TheVariants.{Dir}
-use Rattle.fx_spec.specs.Edit.{set_to}
 use Rattle.fx_session.proofs.Calls.{refused}
 use Rattle.fx_edit.specs.Rules.{removing}
 use Rattle.fx_edit.proofs.Removes.{removing_stops, removing_tires, removing_late, removing_done}
@@ -22,7 +19,7 @@ pub returns-in_err-clear : goal.returns-in_err-clear
 returns-in_err-clear g c =
     record {
       follows =
-          removing_late c.args.path.now c.args.name.now c.in_ok-above.ensures c.in_ok-without.ensures (c.in_ok-edits.ensures ∙ ap (λ (p : List (List ℕ)). set_to p (Dir c.in_ok-without.field-0) ∷ []) c.above.view_is) c.in_ok-names.ensures.follows
+          removing_late c.args.path.now c.args.name.now c.in_ok-above.ensures c.in_ok-without.ensures c.in_ok-edits.ensures c.in_ok-names.ensures.follows
           c.from_residual-in_err-clear.result c.from_residual-in_err-clear.ensures.1 c.in_err-clear.ensures.follows;
     }
 
@@ -30,6 +27,6 @@ pub returns : goal.returns
 returns g c =
     record {
       follows =
-          removing_done c.args.path.now c.args.name.now c.in_ok-above.ensures c.in_ok-without.ensures (c.in_ok-edits.ensures ∙ ap (λ (p : List (List ℕ)). set_to p (Dir c.in_ok-without.field-0) ∷ []) c.above.view_is) c.in_ok-names.ensures.follows
+          removing_done c.args.path.now c.args.name.now c.in_ok-above.ensures c.in_ok-without.ensures c.in_ok-edits.ensures c.in_ok-names.ensures.follows
           c.in_ok-clear.ensures.follows;
     }
