@@ -2,35 +2,46 @@
 use Rattle.std.proofs.Common.{◌≡◌, ℕ, ◌+◌, ◌^◌, ◌<◌, IsTrue, not, eqb, List, [], ◌∷◌, ◌++◌, map, length, codes, refl, sym, ap, ◌∙◌, append_assoc, arith}
 use Rattle.std.specs.Fmt.{decimal}
 use Rattle.std.specs.List.{flat_map}
+use Rattle.std.proofs.lemmas.Bool.Decides.{nat_tests}
+use Rattle.std.proofs.lemmas.List.{append_cancel_left}
 use Rattle.fx_expr.specs.Tree.{Tree}
 use Rattle.fx_store.specs.Names.{path_text}
 use Rattle.fx_spec.specs.Plans.{Turn}
 use Rattle.fx_machine.specs.declared.retry.Retry.{Retry}
 use Rattle.fx_report.specs.Print.{quote, value_text}
-use Rattle.fx_report.specs.Report.{end_text, entries_text, entry_line, entry_text, field, print_line, report_text, retry_line}
+use Rattle.fx_report.specs.Report.{end_text, entries_text, entry_line, entry_text, entry_words, field, print_line, report_text, retry_line, retry_words}
 use Rattle.fx_report.specs.Readable.{AreRetries, IsHeldReport, IsHeldRetry}
 use Rattle.fx_report.specs.declared.printed.PrintedEntry.{PrintedEntry}
-use Rattle.fx_report.proofs.OneLine.{apart, first, rest}
+use Rattle.fx_read_report.specs.Feeds.{LacksFeed}
+use Rattle.fx_read_report.specs.Lines.{entries, entry, print, retries, retry}
 use Rattle.fx_read_report.specs.Numbers.{EndsDigits}
 use Rattle.fx_read_report.proofs.Digits.{decimal_cancel}
+use Rattle.fx_read_report.proofs.Feeds.{line_lacks}
+use Rattle.fx_read_report.proofs.FirstBad.{same_line}
 use Rattle.fx_read_report.proofs.Readable.{report_cancel}
-use Rattle.fx_laws.proofs.Lines.{IsLine, line_append, line_cancel, quote_line, value_line, field_line, end_line}
 
--- what is left after the same front
-same_front : (t x y : List ℕ) → t ++ x ≡ t ++ y → x ≡ y
-same_front [] x y e = e
-same_front (c ∷ t) x y e = same_front t x y (ap rest e)
+abbrev first : List ℕ → ℕ
+first [] = 0
+first (c ∷ x) = c
+
+abbrev rest : List ℕ → List ℕ
+rest [] = []
+rest (c ∷ x) = x
+
+-- two numerals that differ are not equal
+apart : (m n : ℕ) → m ≡ n → IsTrue (not (eqb m n)) → ⊥
+apart m n e differ = grind (arith, nat_tests)
 
 -- a field that begins with the same words
 field_cancel : (words : List ℕ) (m n : ℕ) (x y : List ℕ) → m < 2 ^ 64 → n < 2 ^ 64 → EndsDigits x → EndsDigits y → field words m ++ x ≡ field words n ++ y → (m ≡ n) × (x ≡ y)
 unfolding field
 field_cancel words m n x y p q s t e =
     let inner = sym (append_assoc words (decimal m) x) ∙ (e ∙ append_assoc words (decimal n) y) in
-    decimal_cancel m n x y p q s t (same_front words (decimal m ++ x) (decimal n ++ y) inner)
+    decimal_cancel m n x y p q s t (append_cancel_left words (decimal m ++ x) (decimal n ++ y) inner)
 
 -- a line's end, and what follows it
-ended : (a b x y : List ℕ) → IsLine a → IsLine b → (a ++ codes "\n") ++ x ≡ (b ++ codes "\n") ++ y → (a ≡ b) × (x ≡ y)
-ended a b x y p q e = line_cancel a b x y p q (sym (append_assoc a (codes "\n") x) ∙ (e ∙ append_assoc b (codes "\n") y))
+ended : (a b x y : List ℕ) → LacksFeed a → LacksFeed b → (a ++ codes "\n") ++ x ≡ (b ++ codes "\n") ++ y → (a ≡ b) × (x ≡ y)
+ended a b x y p q e = same_line a b x y p q (sym (append_assoc a (codes "\n") x) ∙ (e ∙ append_assoc b (codes "\n") y))
 
 -- outputs
 
@@ -47,7 +58,7 @@ prints_cut (v ∷ vs) (w ∷ ws) x y s t e =
     let a = codes "print " ++ value_text v in
     let b = codes "print " ++ value_text w in
     let parts = sym (append_assoc (a ++ codes "\n") (flat_map print_line vs) x) ∙ (e ∙ append_assoc (b ++ codes "\n") (flat_map print_line ws) y) in
-    prints_cut vs ws x y s t (ended a b (flat_map print_line vs ++ x) (flat_map print_line ws ++ y) (value_line v) (value_line w) parts).1
+    prints_cut vs ws x y s t (ended a b (flat_map print_line vs ++ x) (flat_map print_line ws ++ y) (line_lacks (print v)) (line_lacks (print w)) parts).1
 
 -- entries
 
@@ -63,25 +74,15 @@ abbrev pub AreNumbered : List PrintedEntry → Type 0
 AreNumbered [] = Unit {0}
 AreNumbered (e ∷ es) = IsNumbered e × AreNumbered es
 
--- the line of an entry up to its end
-abbrev entry_words : ℕ → PrintedEntry → List ℕ
-entry_words i e = field (codes "entry ") i ++ field (codes " shell ") e.shell ++ field (codes " txn ") e.txn ++ codes " " ++ end_text e.end
-
-entry_words_line : (i : ℕ) (e : PrintedEntry) → IsLine (entry_words i e)
-entry_words_line i e =
-    let a = field (codes "entry ") i in
-    let b = field (codes " shell ") e.shell in
-    let c = field (codes " txn ") e.txn in
-    line_append (((a ++ b) ++ c) ++ codes " ") (end_text e.end)
-    (line_append ((a ++ b) ++ c) (codes " ") (line_append (a ++ b) c (line_append a b (field_line (codes "entry ") i refl) (field_line (codes " shell ") e.shell refl)) (field_line (codes " txn ") e.txn refl)) refl)
-    (end_line e.end)
+abbrev words_of : ℕ → PrintedEntry → List ℕ
+words_of i e = entry_words i e.shell e.txn e.end
 
 entry_form : (a b c d : List ℕ) → ((((a ++ b) ++ c) ++ codes " ") ++ d) ≡ a ++ (b ++ (c ++ (32 ∷ d)))
 entry_form a b c d = simp append_assoc
 
-entry_words_cancel : (i : ℕ) (e f : PrintedEntry) → IsNumbered e → IsNumbered f → entry_words i e ≡ entry_words i f → turn_of e ≡ turn_of f
+words_cancel : (i : ℕ) (e f : PrintedEntry) → IsNumbered e → IsNumbered f → words_of i e ≡ words_of i f → turn_of e ≡ turn_of f
 unfolding field
-entry_words_cancel i e f p q same =
+words_cancel i e f p q same =
     let number = field (codes "entry ") i in
     let b = field (codes " shell ") e.shell in
     let c = field (codes " txn ") e.txn in
@@ -90,7 +91,7 @@ entry_words_cancel i e f p q same =
     let u = 32 ∷ end_text e.end in
     let v = 32 ∷ end_text f.end in
     let parts = sym (entry_form number b c (end_text e.end)) ∙ (same ∙ entry_form number g h (end_text f.end)) in
-    let shell = field_cancel (codes " shell ") e.shell f.shell (c ++ u) (h ++ v) p.shell q.shell refl refl (same_front number (b ++ (c ++ u)) (g ++ (h ++ v)) parts) in
+    let shell = field_cancel (codes " shell ") e.shell f.shell (c ++ u) (h ++ v) p.shell q.shell refl refl (append_cancel_left number (b ++ (c ++ u)) (g ++ (h ++ v)) parts) in
     let txn = field_cancel (codes " txn ") e.txn f.txn u v p.txn q.txn refl refl shell.1 in
     λ k. (shell.0 k, txn.0 k)
 
@@ -113,26 +114,13 @@ entries_cut (d ∷ es) (f ∷ fs) i x y p q e =
     let u = entries_text (i + 1) es ++ 114 ∷ x in
     let v = entries_text (i + 1) fs ++ 114 ∷ y in
     let parts = sym (entries_form (entry_line i d.shell d.txn d.end) a (entries_text (i + 1) es) (114 ∷ x)) ∙ (e ∙ entries_form (entry_line i f.shell f.txn f.end) b (entries_text (i + 1) fs) (114 ∷ y)) in
-    let here = ended (entry_words i d) (entry_words i f) (a ++ u) (b ++ v) (entry_words_line i d) (entry_words_line i f) parts in
-    let turn = entry_words_cancel i d f p.0 q.0 here.0 in
+    let here = ended (words_of i d) (words_of i f) (a ++ u) (b ++ v) (line_lacks (entry i d.shell d.txn d.end)) (line_lacks (entry i f.shell f.txn f.end)) parts in
+    let turn = words_cancel i d f p.0 q.0 here.0 in
     let behind = prints_cut d.outputs f.outputs u v (entries_first (i + 1) es x) (entries_first (i + 1) fs y) here.1 in
     let later = entries_cut es fs (i + 1) x y p.1 q.1 behind in
     (λ k. turn k ∷ later.0 k, later.1)
 
 -- retries
-
--- the line of a retry up to its end
-abbrev retry_words : Retry → List ℕ
-retry_words r = field (codes "retry shell ") r.shell ++ field (codes " txn ") r.txn ++ field (codes " entry ") r.entry ++ codes " path " ++ quote (path_text r.path)
-
-retry_words_line : (r : Retry) → IsLine (retry_words r)
-retry_words_line r =
-    let a = field (codes "retry shell ") r.shell in
-    let b = field (codes " txn ") r.txn in
-    let c = field (codes " entry ") r.entry in
-    line_append (((a ++ b) ++ c) ++ codes " path ") (quote (path_text r.path))
-    (line_append ((a ++ b) ++ c) (codes " path ") (line_append (a ++ b) c (line_append a b (field_line (codes "retry shell ") r.shell refl) (field_line (codes " txn ") r.txn refl)) (field_line (codes " entry ") r.entry refl)) refl)
-    (quote_line (path_text r.path))
 
 -- the report of no entry and of one retry, which has this line
 abbrev around : List ℕ → List ℕ
@@ -157,7 +145,7 @@ retries_cut [] (s ∷ ss) x y p q e = absurd (apart 101 114 (ap first e) refl)
 retries_cut (r ∷ rs) [] x y p q e = absurd (apart 114 101 (ap first e) refl)
 retries_cut (r ∷ rs) (s ∷ ss) x y p q e =
     let parts = sym (append_assoc (retry_line r) (flat_map retry_line rs) (101 ∷ x)) ∙ (e ∙ append_assoc (retry_line s) (flat_map retry_line ss) (101 ∷ y)) in
-    let cut = ended (retry_words r) (retry_words s) (flat_map retry_line rs ++ 101 ∷ x) (flat_map retry_line ss ++ 101 ∷ y) (retry_words_line r) (retry_words_line s) parts in
+    let cut = ended (retry_words r) (retry_words s) (flat_map retry_line rs ++ 101 ∷ x) (flat_map retry_line ss ++ 101 ∷ y) (line_lacks (retry r)) (line_lacks (retry s)) parts in
     let here = same_retries r s p.0 q.0 cut.0 in
     let later = retries_cut rs ss x y p.1 q.1 cut.1 in
     λ i. here i ∷ later i
@@ -180,7 +168,7 @@ report_cut es fs rs ss p q held kept same =
     let a = entries_text 0 es ++ (c ++ (10 ∷ u)) in
     let b = entries_text 0 fs ++ (d ++ (10 ∷ v)) in
     let parts = sym (report_form head m (entries_text 0 es) c (flat_map retry_line rs) (codes "end\n")) ∙ (same ∙ report_form head n (entries_text 0 fs) d (flat_map retry_line ss) (codes "end\n")) in
-    let count = line_cancel m n a b (field_line (codes "entries ") (length es) refl) (field_line (codes "entries ") (length fs) refl) (same_front head (m ++ (10 ∷ a)) (n ++ (10 ∷ b)) parts) in
-    let entries = entries_cut es fs 0 (rest (c ++ (10 ∷ u))) (rest (d ++ (10 ∷ v))) p q count.1 in
-    let number = line_cancel c d u v (field_line (codes "retries ") (length rs) refl) (field_line (codes "retries ") (length ss) refl) (ap (λ t. 114 ∷ t) entries.1) in
-    (entries.0, retries_cut rs ss (codes "nd\n") (codes "nd\n") held kept number.1)
+    let count = same_line m n a b (line_lacks (entries (length es))) (line_lacks (entries (length fs))) (append_cancel_left head (m ++ (10 ∷ a)) (n ++ (10 ∷ b)) parts) in
+    let cut = entries_cut es fs 0 (rest (c ++ (10 ∷ u))) (rest (d ++ (10 ∷ v))) p q count.1 in
+    let number = same_line c d u v (line_lacks (retries (length rs))) (line_lacks (retries (length ss))) (ap (λ t. 114 ∷ t) cut.1) in
+    (cut.0, retries_cut rs ss (codes "nd\n") (codes "nd\n") held kept number.1)

@@ -11,7 +11,6 @@ pub mod Listed
 pub mod Described
 pub mod Commanded
 pub mod Texted
-pub mod Lines
 pub mod Cuts
 pub mod EntryNames
 pub mod Spelled

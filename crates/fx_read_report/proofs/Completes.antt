@@ -1,80 +1,68 @@
--- What was read can be completed to a report.
-use Rattle.std.proofs.Common.{◌≡◌, ℕ, zero, suc, ◌+◌, ◌-◌, ◌^◌, ◌<◌, true, nat_eq, nat_lt, List, [], ◌∷◌, ◌++◌, length, refl, sym, ap, ◌∙◌, append_assoc, append-nil, length-append, arith, lit<}
-use Rattle.std.proofs.lemmas.Bool.{lt-ltb, and_from, eq-eqb}
+-- What was read goes on to a report.
+use Rattle.std.proofs.Common.{◌≡◌, ℕ, zero, suc, ◌+◌, ◌-◌, ◌^◌, ◌<◌, ◌≤◌, nat_eq, List, [], ◌∷◌, ◌++◌, length, map, replicate, refl, sym, ap, subst, ◌∙◌, length-append, arith, lit<}
+use Rattle.std.specs.List.{AllByRecursion}
+use Rattle.std.proofs.lemmas.Bool.{eq-eqb}
+use Rattle.std.proofs.lemmas.List.{length-replicate}
 use Rattle.std.proofs.lemmas.List.Elements.{All-nil}
+use Rattle.fx_base.proofs.Lists.{all_both}
 use Rattle.fx_spec.specs.declared.refusal.End.TheVariants as end
 use Rattle.fx_machine.specs.declared.retry.Retry.{Retry}
 use Rattle.fx_report.specs.declared.printed.PrintedEntry.{PrintedEntry}
-use Rattle.fx_store.specs.Names.{IsName, IsPath}
-use Rattle.fx_read_report.specs.Form.{IsReportForm}
-use Rattle.fx_read_report.specs.Lines.{IsLine, Line, head, entries, entry, retries, retry, final, report_lines}
-use Rattle.fx_read_report.specs.Stages.{IsState, State, advanced, entry_begun, lines_of_state, may_follow}
+use Rattle.fx_store.specs.Names.{IsName}
+use Rattle.fx_read_report.specs.Form.{AreFormEntries, AreFormRetries}
+use Rattle.fx_read_report.specs.Lines.{IsLine, Line, head, entries, retries, retry, final}
+use Rattle.fx_read_report.specs.Stages.{State, at, entry_begun}
 use Rattle.fx_read_report.specs.declared.reading.Stage.{Stage}
 use Rattle.fx_read_report.specs.declared.reading.Stage.TheVariants as stage
-use Rattle.fx_read_report.proofs.Advances.{steps}
-use Rattle.fx_read_report.proofs.Running.{at}
+use Rattle.fx_read_report.proofs.Advances.{Fits, lines_at}
+use Rattle.fx_read_report.proofs.FirstBad.{GoesOn, goes_before}
+use Rattle.fx_read_report.proofs.Running.{entries_run, goes, retries_run}
+use Rattle.fx_read_report.proofs.Texts.{along, entries_lines, entry_lines, reports, retries_are}
 
--- a report that begins with the lines that were read
-pub record Completed (s : State) : Type 0 where
-  pub entries : List PrintedEntry
-  pub retries : List Retry
-  pub more : List Line
-  pub form : IsReportForm entries retries
-  pub lines : report_lines entries retries ≡ lines_of_state s ++ more
-
--- by a line that may follow, and what completes the report behind it
-through : (s : State) (l : Line) → IsState s → IsLine l → may_follow s l ≡ true → (IsState (advanced s l) → Completed (advanced s l)) → Completed s
-through s l is line ok later =
-    let step = steps s l is line ok in
-    let c = later step.is in
-    record { entries = c.entries; retries = c.retries; more = l ∷ c.more; form = c.form; lines = c.lines ∙ (ap (λ t. t ++ c.more) step.lines ∙ append_assoc (lines_of_state s) (l ∷ []) c.more) }
+abbrev blank : PrintedEntry
+blank = entry_begun 0 0 end.Done
 
 abbrev blank_retry : Retry
 blank_retry = record { shell = 0; txn = 0; entry = 0; path = [] }
 
-root_path : IsPath []
-root_path = record { names = All-nil IsName; short = omega arith }
+blanks : (k : ℕ) → AreFormEntries (replicate k blank)
+blanks zero = tt
+blanks (suc k) = (record { shell = lit< tt; txn = lit< tt; outputs = tt; ended = tt }, blanks k)
 
-after_end : (es : List PrintedEntry) (rs : List Retry) → IsState (at stage.Ended es rs) → Completed (at stage.Ended es rs)
-after_end es rs is =
+blank_retries : (k : ℕ) → AreFormRetries (replicate k blank_retry)
+blank_retries zero = tt
+blank_retries (suc k) = (record { shell = lit< tt; txn = lit< tt; entry = lit< tt; path = record { names = All-nil IsName; short = omega arith } }, blank_retries k)
+
+-- behind the count of retries stand as many, and the last line
+after_retries : (n : ℕ) (es : List PrintedEntry) (rs : List Retry) → length rs ≤ n → GoesOn reports (at (stage.Retries n) es rs)
+after_retries n es rs few =
+    let qs = replicate (n - length rs) blank_retry in
+    let size = length-replicate (n - length rs) blank_retry in
+    let sum = length-append rs qs in
     record {
-      entries = es;
-      retries = rs;
-      more = [];
-      form = record { entries_fit = is.fits.0; retries_fit = is.fits.1; entries_form = is.entries_form; retries_form = is.retries_form };
-      lines = sym (append-nil (report_lines es rs));
+      more = map retry qs ++ final ∷ [];
+      end = at stage.Ended es (rs ++ qs);
+      are = all_both IsLine (map retry qs) (final ∷ []) (along (retries_are qs) (blank_retries (n - length rs))) (tt, tt);
+      ran = retries_run n es rs qs (final ∷ []) (omega (arith, size, few)) ∙ goes (nat_eq (length (rs ++ qs)) n) _ [] (eq-eqb (length (rs ++ qs)) n (omega (arith, sum, size, few)));
+      ends = refl;
     }
 
-after_retries : (k n : ℕ) (es : List PrintedEntry) (rs : List Retry) → length rs + k ≡ n → IsState (at (stage.Retries n) es rs) → Completed (at (stage.Retries n) es rs)
-after_retries zero n es rs e is = through (at (stage.Retries n) es rs) final is tt (eq-eqb (length rs) n (omega (arith, e))) (λ next. after_end es rs next)
-after_retries (suc k) n es rs e is =
-    let size = length-append rs (blank_retry ∷ []) in
-    through (at (stage.Retries n) es rs) (retry blank_retry) is (record { shell = lit< tt; txn = lit< tt; entry = lit< tt; path = root_path }) (lt-ltb (length rs) n (omega (arith, e)))
-    (λ next. after_retries k n es (rs ++ blank_retry ∷ []) (omega (arith, e, size)) next)
+-- behind the count of entries stand as many, and no retry
+after_entries : (n : ℕ) (es : List PrintedEntry) → n < 2 ^ 64 → length es ≤ n → GoesOn reports (at (stage.Entries n) es [])
+after_entries n es small few =
+    let ds = replicate (n - length es) blank in
+    let size = length-replicate (n - length es) blank in
+    let sum = length-append es ds in
+    goes_before reports (at (stage.Entries n) es []) (at (stage.Retries 0) (es ++ ds) []) (entry_lines (length es) ds ++ retries 0 ∷ [])
+    (all_both IsLine (entry_lines (length es) ds) (retries 0 ∷ []) (entries_lines (length es) ds (omega (arith, size, few, small)) (blanks (n - length es))) (lit< tt, tt))
+    (entries_run n es ds [] (length es) (retries 0 ∷ []) refl (omega (arith, size, few)) ∙ goes (nat_eq (length (es ++ ds)) n) _ [] (eq-eqb (length (es ++ ds)) n (omega (arith, sum, size, few))))
+    (after_retries 0 (es ++ ds) [] (omega arith))
 
-after_entries : (k n : ℕ) (es : List PrintedEntry) (rs : List Retry) → length es + k ≡ n → IsState (at (stage.Entries n) es rs) → Completed (at (stage.Entries n) es rs)
-after_entries zero n es rs e is =
-    through (at (stage.Entries n) es rs) (retries (length rs)) is (no_more rs is.fits.2) (eq-eqb (length es) n (omega (arith, e))) (λ next. after_retries 0 (length rs) es rs (omega arith) next)
-  where
-    no_more : (rs : List Retry) → rs ≡ [] → length rs < 2 ^ 64
-    no_more rs none = let size = ap length none in omega (arith, size)
-after_entries (suc k) n es rs e is =
-    let blank = entry_begun 0 0 end.Done in
-    let size = length-append es (blank ∷ []) in
-    through (at (stage.Entries n) es rs) (entry (length es) 0 0 end.Done) is (omega (arith, e, is.fits.1), lit< tt, lit< tt, tt)
-    (and_from (nat_eq (length es) (length es)) (nat_lt (length es) n) (eq-eqb (length es) (length es) refl) (lt-ltb (length es) n (omega (arith, e))))
-    (λ next. after_entries k n (es ++ blank ∷ []) rs (omega (arith, e, size)) next)
-
-after_head : (es : List PrintedEntry) (rs : List Retry) → IsState (at stage.Headed es rs) → Completed (at stage.Headed es rs)
-after_head es rs is =
-    through (at stage.Headed es rs) (entries 0) is (lit< tt) refl (λ next. after_entries 0 0 es rs (let size = ap length is.fits.0 in omega (arith, size)) next)
-
-completed_at : (g : Stage) (es : List PrintedEntry) (rs : List Retry) → IsState (at g es rs) → Completed (at g es rs)
-completed_at stage.Start es rs is = through (at stage.Start es rs) head is tt refl (λ next. after_head es rs next)
-completed_at stage.Headed es rs is = after_head es rs is
-completed_at (stage.Entries n) es rs is = after_entries (n - length es) n es rs (let few = is.fits.0 in omega (arith, few)) is
-completed_at (stage.Retries n) es rs is = after_retries (n - length rs) n es rs (let few = is.fits.1 in omega (arith, few)) is
-completed_at stage.Ended es rs is = after_end es rs is
-
-pub completed : (s : State) → IsState s → Completed s
-completed s is = completed_at s.stage s.entries s.retries is
+pub goes_on : (g : Stage) (es : List PrintedEntry) (rs : List Retry) → Fits g es rs → AllByRecursion IsLine (lines_at g es rs) → GoesOn reports (at g es rs)
+goes_on stage.Start es rs f are =
+    subst (λ (s : State). GoesOn reports s) (λ i. at stage.Start (sym f.0 i) (sym f.1 i)) (goes_before reports (at stage.Start [] []) (at (stage.Entries 0) [] []) (head ∷ entries 0 ∷ []) (tt, (lit< tt, tt)) refl (after_entries 0 [] (lit< tt) (omega arith)))
+goes_on stage.Headed es rs f are =
+    subst (λ (s : State). GoesOn reports s) (λ i. at stage.Headed (sym f.0 i) (sym f.1 i)) (goes_before reports (at stage.Headed [] []) (at (stage.Entries 0) [] []) (entries 0 ∷ []) (lit< tt, tt) refl (after_entries 0 [] (lit< tt) (omega arith)))
+goes_on (stage.Entries n) es rs f are = subst (λ (qs : List Retry). GoesOn reports (at (stage.Entries n) es qs)) (sym f.1) (after_entries n es are.1.0 f.0)
+goes_on (stage.Retries n) es rs f are = after_retries n es rs f
+goes_on stage.Ended es rs f are = record { more = []; end = at stage.Ended es rs; are = tt; ran = refl; ends = refl }

@@ -13,6 +13,7 @@ use Rattle.std.proofs.lemmas.Str.Parse.{IsNumeralModel, numerals_by_value}
 use Rattle.std.proofs.lemmas.Str.{IsUtf8-from_ascii}
 use Rattle.std.proofs.lemmas.Fmt.{IsAscii-from_digits, decimal_is_IsNumeral, digits_decimal, decimal_nonempty, parse-decimal}
 use Rattle.std.proofs.lemmas.Option.{cond_some, some_pair_parts}
+use Rattle.std.proofs.Math.Seq.{drop-append_seam, take-append_seam}
 use Rattle.std.specs.Cmp.Lexicographic.{nat_list_eq_equiv, bytes_decides}
 use Rattle.fx_report.specs.Readable.{IsInteger}
 use Rattle.fx_read_report.specs.Numbers.{EndsDigits, after, is_digit, number_of, leading_number, leading_integer, integer_by, signed, positive, negative}
@@ -94,22 +95,14 @@ prefix_of (d ∷ ds) x p s =
     let later = prefix_of ds x parts.1 s in
     ap (λ b. cond b (1 + prefix_len is_digit (ds ++ x)) 0) parts.0 ∙ omega (arith, later)
 
-pub take_front : (ds x : List ℕ) → take (length ds) (ds ++ x) ≡ ds
-take_front [] x = refl
-take_front (d ∷ ds) x = ap (λ t. d ∷ t) (take_front ds x)
-
-pub drop_front : (ds x : List ℕ) → drop (length ds) (ds ++ x) ≡ x
-drop_front [] x = refl
-drop_front (d ∷ ds) x = drop_front ds x
-
 pub leading_read : (n : ℕ) (x : List ℕ) → n < 2 ^ 64 → EndsDigits x → leading_number (decimal n ++ x) ≡ Some (n, x)
 unfolding leading_number
 leading_read n x small s =
     let ds = decimal n in
     let b = ds ++ x in
     ap (λ m. option_map (λ v. (v, drop m b)) (number_of (take m b))) (prefix_of ds x (digits_decimal own n small) s)
-    ∙ (ap (λ t. option_map (λ v. (v, drop (length ds) b)) (number_of t)) (take_front ds x)
-    ∙ (ap (λ o. option_map (λ v. (v, drop (length ds) b)) o) (number_read n small) ∙ ap (λ t. Some (n, t)) (drop_front ds x)))
+    ∙ (ap (λ t. option_map (λ v. (v, drop (length ds) b)) (number_of t)) (take-append_seam ds x)
+    ∙ (ap (λ o. option_map (λ v. (v, drop (length ds) b)) o) (number_read n small) ∙ ap (λ t. Some (n, t)) (drop-append_seam ds x)))
 
 -- what is spelled tells the number
 pub decimal_cancel : (m n : ℕ) (x y : List ℕ) → m < 2 ^ 64 → n < 2 ^ 64 → EndsDigits x → EndsDigits y → decimal m ++ x ≡ decimal n ++ y → (m ≡ n) × (x ≡ y)
@@ -120,8 +113,8 @@ decimal_cancel m n x y p q s t e = some_pair_parts m n x y (sym (leading_read m 
 pub after_read : (words x : List ℕ) → after words (words ++ x) ≡ Some x
 unfolding after
 after_read words x =
-    let same : bytes_eq (take (length words) (words ++ x)) words ≡ true = ap (λ t. bytes_eq t words) (take_front words x) ∙ nat_list_eq_equiv.refl words in
-    ap (λ b. cond b (Some (drop (length words) (words ++ x))) None) same ∙ ap Some (drop_front words x)
+    let same : bytes_eq (take (length words) (words ++ x)) words ≡ true = ap (λ t. bytes_eq t words) (take-append_seam words x) ∙ nat_list_eq_equiv.refl words in
+    ap (λ b. cond b (Some (drop (length words) (words ++ x))) None) same ∙ ap Some (drop-append_seam words x)
 
 -- integers
 

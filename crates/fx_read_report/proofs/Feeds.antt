@@ -7,13 +7,13 @@ use Rattle.fx_store.specs.Names.{path_text}
 use Rattle.fx_report.specs.Print.{quote}
 use Rattle.fx_report.specs.Report.{end_text, field}
 use Rattle.fx_report.proofs.OneLine as fed
-use Rattle.fx_read_report.specs.Form.{LacksFeed}
+use Rattle.fx_read_report.specs.Feeds.{LacksFeed}
 use Rattle.fx_read_report.specs.Lines.{Line, head, entries, entry, print, retries, retry, final, line_text}
 
 other : (b : ℕ) → not (eqb b 10) ≡ true → b ≡ 10 → ⊥
 other b h e = grind (arith, nat_tests)
 
-lacks : (x : List ℕ) → fed.IsLine x → LacksFeed x
+pub lacks : (x : List ℕ) → fed.IsLine x → LacksFeed x
 lacks [] p = tt
 lacks (b ∷ x) p = let both = and_parts (not (eqb b 10)) (fed.one_line x) p in (other b both.0, lacks x both.1)
 
@@ -21,25 +21,13 @@ is_line : (l : Line) → fed.IsLine (line_text l)
 is_line head = refl
 is_line (entries n) = fed.field_line (codes "entries ") n refl
 is_line (entry i k j e) =
-    let a = field (codes "entry ") i in
-    let b = field (codes " shell ") k in
-    let c = field (codes " txn ") j in
-    fed.line_append (((a ++ b) ++ c) ++ codes " ") (end_text e)
-    (fed.line_append ((a ++ b) ++ c) (codes " ")
-    (fed.line_append (a ++ b) c (fed.line_append a b (fed.field_line (codes "entry ") i refl) (fed.field_line (codes " shell ") k refl)) (fed.field_line (codes " txn ") j refl))
-    refl)
-    (fed.end_line e)
+    fed.pieces_line (field (codes "entry ") i) (field (codes " shell ") k ∷ field (codes " txn ") j ∷ codes " " ∷ end_text e ∷ [])
+    (fed.field_line (codes "entry ") i refl) (fed.field_line (codes " shell ") k refl, (fed.field_line (codes " txn ") j refl, (refl, (fed.end_line e, tt))))
 is_line (print v) = fed.value_line v
 is_line (retries n) = fed.field_line (codes "retries ") n refl
 is_line (retry r) =
-    let a = field (codes "retry shell ") r.shell in
-    let b = field (codes " txn ") r.txn in
-    let c = field (codes " entry ") r.entry in
-    fed.line_append (((a ++ b) ++ c) ++ codes " path ") (quote (path_text r.path))
-    (fed.line_append ((a ++ b) ++ c) (codes " path ")
-    (fed.line_append (a ++ b) c (fed.line_append a b (fed.field_line (codes "retry shell ") r.shell refl) (fed.field_line (codes " txn ") r.txn refl)) (fed.field_line (codes " entry ") r.entry refl))
-    refl)
-    (fed.quote_line (path_text r.path))
+    fed.pieces_line (field (codes "retry shell ") r.shell) (field (codes " txn ") r.txn ∷ field (codes " entry ") r.entry ∷ codes " path " ∷ quote (path_text r.path) ∷ [])
+    (fed.field_line (codes "retry shell ") r.shell refl) (fed.field_line (codes " txn ") r.txn refl, (fed.field_line (codes " entry ") r.entry refl, (refl, (fed.quote_line (path_text r.path), tt))))
 is_line final = refl
 
 pub line_lacks : (l : Line) → LacksFeed (line_text l)

@@ -1,3 +1,4 @@
+pub mod FirstBad
 pub mod Scans
 pub mod Digits
 pub mod ValueLaws
@@ -5,13 +6,11 @@ pub mod ValueLoops
 pub mod ValueFits
 pub mod PartLaws
 pub mod LineLaws
-pub mod Machine
-pub mod Running
 pub mod Feeds
-pub mod Advances
-pub mod Completes
 pub mod Texts
 pub mod Printing
-pub mod Taking
+pub mod Running
+pub mod Advances
+pub mod Completes
 pub mod Reporting
 pub mod Readable

@@ -1,5 +1,6 @@
 -- The lines of a report are read as they are spelled.
 use Rattle.std.proofs.Common.{◌≡◌, ℕ, zero, suc, ◌^◌, ◌<◌, ◌≤◌, Bool, true, false, nat_le, List, [], ◌∷◌, ◌++◌, length, Option, Some, None, codes, refl, sym, ap, ◌∙◌, append-nil, append_assoc, arith}
+use Rattle.std.specs.List.{AllByRecursion}
 use Rattle.std.specs.Option.{option_map, option_and_then}
 use Rattle.std.specs.Prelude.{bytes_eq}
 use Rattle.std.specs.Cmp.Lexicographic.{bytes_decides}
@@ -12,7 +13,7 @@ use Rattle.fx_report.specs.Print.{quote, value_text}
 use Rattle.fx_report.specs.Report.{end_text, field}
 use Rattle.fx_read_report.specs.Limits.{Limits, strict}
 use Rattle.fx_read_report.specs.Numbers.{EndsDigits, after}
-use Rattle.fx_read_report.specs.Values.{ArePrintedRows, ArePrintedTexts, IsPrinted, IsPrintedText, alone, keys_in, value_at}
+use Rattle.fx_read_report.specs.Values.{ArePrintedRows, IsPrinted, IsPrintedText, alone, keys_in, value_at}
 use Rattle.fx_read_report.specs.declared.values.TheConstants.{VALUE_LEVELS}
 use Rattle.fx_read_report.specs.Kinds.{kind_of}
 use Rattle.fx_read_report.specs.declared.lines.Kind.{Kind}
@@ -22,7 +23,7 @@ use Rattle.fx_read_report.specs.Reads.{end_at, entries_at, entry_at, field_at, f
 use Rattle.fx_read_report.proofs.Digits.{after_read}
 use Rattle.fx_read_report.proofs.PartLaws.{IsEndIn, IsPathIn, end_read, field_read, last_read, path_read, small_read, strict_end, strict_path}
 use Rattle.fx_read_report.proofs.ValueLoops.{ascends_of}
-use Rattle.fx_read_report.proofs.ValueLaws.{AreRowsIn, AreTextsIn, IsIn, IsTextIn, ends_at, value_read}
+use Rattle.fx_read_report.proofs.ValueLaws.{AreRowsIn, IsIn, IsTextIn, value_read}
 
 field_ends : (words : List ℕ) (n : ℕ) (x : List ℕ) → EndsDigits (codes " " ++ words) → EndsDigits (field (codes " " ++ words) n ++ x)
 unfolding field
@@ -108,12 +109,7 @@ kind_in final = kind.Final
 line_kind : (l : Line) → kind_of (line_text l) ≡ kind_in l
 unfolding kind_of field
 line_kind head = refl
-line_kind (entries n) = refl
-line_kind (entry i k j e) = refl
-line_kind (print v) = refl
-line_kind (retries n) = refl
-line_kind (retry r) = refl
-line_kind final = refl
+line_kind l = refl
 
 -- ---- the line of a text
 
@@ -128,7 +124,7 @@ IsLineIn m levels (retry r) = IsRetryIn m r
 IsLineIn m levels final = Unit {0}
 
 whole_value : (m : Limits) (levels : ℕ) (v : Tree) → IsIn m levels v → value_at m levels (value_text v) ≡ Some (v, [])
-whole_value m levels v p = ap (value_at m levels) (sym (append-nil (value_text v))) ∙ value_read m levels v [] p (ends_at v [] tt)
+whole_value m levels v p = ap (value_at m levels) (sym (append-nil (value_text v))) ∙ value_read m levels v [] p tt
 
 of_kind : (m : Limits) (levels : ℕ) (l : Line) → IsLineIn m levels l → line_by m levels (kind_in l) (line_text l) ≡ Some l
 unfolding head_at entries_at print_at retries_at final_at
@@ -159,7 +155,7 @@ strict_text t p = record { bytes = p.bytes; taken = le_true (length t) p.short }
     le_true : (n : ℕ) → n ≤ 1048576 → nat_le n 1048576 ≡ true
     le_true n h = grind (arith, nat_tests)
 
-strict_texts : (ts : List (List ℕ)) → ArePrintedTexts ts → AreTextsIn strict ts
+strict_texts : (ts : List (List ℕ)) → AllByRecursion IsPrintedText ts → AllByRecursion (IsTextIn strict) ts
 strict_texts [] p = tt
 strict_texts (t ∷ ts) p = (strict_text t p.0, strict_texts ts p.1)
 

@@ -96,38 +96,17 @@ strict_end end.Aborted p = tt
 
 refusal_read : (m : Limits) (r : Refusal) → IsRefusalIn m r → refusal_at m (refusal_number r) (refusal_text r) ≡ Some r
 unfolding refusal_at fault_at
-refusal_read m refusal.NoStep p = refl
-refusal_read m refusal.NoElement p = refl
-refusal_read m refusal.NoPlace p = refl
-refusal_read m refusal.Lacks p = refl
-refusal_read m refusal.WrongForm p = refl
 refusal_read m (refusal.Blocked path) p = blocked_read m path (p path refl)
-refusal_read m refusal.TooDeep p = refl
-refusal_read m refusal.BadName p = refl
-refusal_read m refusal.NoDefault p = refl
 refusal_read m (refusal.Expr fault.TooLong) p = refl
 refusal_read m (refusal.Expr fault.Overflow) p = refl
 refusal_read m (refusal.Expr fault.NotNumber) p = refl
-refusal_read m refusal.Absent p = refl
-refusal_read m refusal.Exists p = refl
-refusal_read m refusal.TooUnfolded p = refl
+refusal_read m r p = refl
 
 -- ---- ends
 
-pub number_small : (r : Refusal) → refusal_number r < 2 ^ 64
-number_small refusal.NoStep = lit< tt
-number_small refusal.NoElement = lit< tt
-number_small refusal.NoPlace = lit< tt
-number_small refusal.Lacks = lit< tt
-number_small refusal.WrongForm = lit< tt
-number_small (refusal.Blocked path) = lit< tt
-number_small refusal.TooDeep = lit< tt
-number_small refusal.BadName = lit< tt
-number_small refusal.NoDefault = lit< tt
+number_small : (r : Refusal) → refusal_number r < 2 ^ 64
 number_small (refusal.Expr f) = lit< tt
-number_small refusal.Absent = lit< tt
-number_small refusal.Exists = lit< tt
-number_small refusal.TooUnfolded = lit< tt
+number_small r = lit< tt
 
 stop_form : (a b r : List ℕ) → ((a ++ b) ++ codes " ") ++ r ≡ a ++ (b ++ (codes " " ++ r))
 stop_form a b r = simp append_assoc

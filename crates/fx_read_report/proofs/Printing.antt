@@ -2,11 +2,10 @@
 use Rattle.std.proofs.Common.{◌≡◌, ℕ, ◌+◌, ◌<◌, ◌≤◌, List, [], ◌∷◌, ◌++◌, length, take, drop, get_or, Bool, true, false, nat_eq, refl, sym, ap, subst, ◌∙◌, arith}
 use Rattle.std.proofs.lemmas.Bool.{eqb-true}
 use Rattle.std.proofs.lemmas.List.{take_all, take_more}
-use Rattle.fx_base.proofs.Lists.{parts_at}
+use Rattle.fx_base.proofs.Lists.{all_push, parts_at}
 use Rattle.fx_expr.specs.Tree.{Tree}
 use Rattle.fx_report.specs.declared.printed.PrintedEntry.{PrintedEntry}
-use Rattle.fx_read_report.specs.Feeds.{IsFeedAt}
-use Rattle.fx_read_report.specs.Form.{LacksFeed}
+use Rattle.fx_read_report.specs.Feeds.{IsFeedAt, LacksFeed}
 use Rattle.fx_read_report.specs.Stages.{with_last_output}
 
 abbrev pub with_output : PrintedEntry → Tree → PrintedEntry
@@ -23,27 +22,15 @@ printed_is old xs new e outputs v was is made =
 
 -- feeds
 
-lacks_push : (x : List ℕ) (b : ℕ) → LacksFeed x → (b ≡ 10 → ⊥) → LacksFeed (x ++ b ∷ [])
-lacks_push [] b p q = (q, tt)
-lacks_push (c ∷ x) b p q = (p.0, lacks_push x b p.1 q)
-
 pub none_yet : (text : List ℕ) → LacksFeed (take 0 text)
 none_yet [] = tt
 none_yet (b ∷ text) = tt
 
 pub none_more : (text : List ℕ) (i : ℕ) → i < length text → (get_or text i 0 ≡ 10 → ⊥) → LacksFeed (take i text) → LacksFeed (take (i + 1) text)
-none_more text i lt other before = subst LacksFeed (sym (take_more text i 0 lt)) (lacks_push (take i text) (get_or text i 0) before other)
+none_more text i lt other before = subst LacksFeed (sym (take_more text i 0 lt)) (all_push (λ b. b ≡ 10 → ⊥) (take i text) (get_or text i 0) before other)
 
 pub feed_at : (text : List ℕ) (i : ℕ) → i < length text → get_or text i 0 ≡ 10 → LacksFeed (take i text) → IsFeedAt text i
 feed_at text i lt same before = record { within = lt; before = before; parts = parts_at text i 0 lt ∙ ap (λ y. take i text ++ y ∷ drop (i + 1) text) same }
 
 pub none_at_all : (text : List ℕ) (i : ℕ) → length text ≤ i → LacksFeed (take i text) → LacksFeed text
 none_at_all text i h before = subst LacksFeed (take_all i text h) before
-
--- no bytes, by their length
-pub empty_is : (x : List ℕ) (b : Bool) → b ≡ nat_eq (length x) 0 → b ≡ true → x ≡ []
-empty_is [] b e t = refl
-empty_is (c ∷ x) b e t = let size : length (c ∷ x) ≡ 0 = eqb-true (length (c ∷ x)) 0 (sym e ∙ t) in absurd (omega (arith, size))
-
-pub some_is : (x : List ℕ) (b : Bool) → b ≡ nat_eq (length x) 0 → b ≡ false → x ≡ [] → ⊥
-some_is x b e f none = let wrong : true ≡ false = sym (ap (λ t. nat_eq (length t) 0) none) ∙ (sym e ∙ f) in absurd (cc)

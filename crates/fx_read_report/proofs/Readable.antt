@@ -1,9 +1,10 @@
 -- Printed texts are read in one way: a reader without the limits of a report reads each of them.
 use Rattle.std.proofs.Common.{◌≡◌, ℕ, zero, suc, ◌+◌, ◌^◌, ◌<◌, ◌≤◌, true, false, All, List, [], ◌∷◌, ◌++◌, map, length, Some, refl, sym, ap, subst, ◌∙◌, append-nil, arith, lit<}
-use Rattle.std.specs.List.{flat_map, slice_split}
+use Rattle.std.specs.List.{AllByRecursion, flat_map, slice_split}
 use Rattle.std.proofs.lemmas.List.Elements.{All-nil, All-cons}
 use Rattle.std.proofs.lemmas.List.Splits.{slice_split_none, slice_split_at}
 use Rattle.std.proofs.lemmas.Option.{some_pair_parts}
+use Rattle.fx_base.proofs.Lists.{all_both}
 use Rattle.fx_expr.specs.Tree.{Tree, TreeRows, str, int, bool, names, pair, nothing, some, table, no_rows, row}
 use Rattle.fx_store.specs.Names.{components, is_slash, path_text}
 use Rattle.fx_spec.specs.declared.refusal.End.{End}
@@ -15,15 +16,16 @@ use Rattle.fx_report.specs.Report.{report_text}
 use Rattle.fx_report.specs.declared.printed.PrintedEntry.{PrintedEntry}
 use Rattle.fx_read_report.specs.Form.{IsReportOf}
 use Rattle.fx_read_report.specs.Limits.{Limits}
-use Rattle.fx_read_report.specs.Lines.{IsLine, Line, head, entries, entry, print, retries, retry, final, entry_lines, line_text, report_lines}
+use Rattle.fx_read_report.specs.Lines.{IsLine, Line, head, entries, entry, print, retries, retry, final, line_text}
 use Rattle.fx_read_report.specs.Quotes.{unquoted}
 use Rattle.fx_read_report.specs.Values.{value_at}
 use Rattle.fx_read_report.proofs.LineLaws.{IsLineIn, one_line, one_line_in}
 use Rattle.fx_read_report.proofs.PartLaws.{IsEndIn, IsPathIn}
 use Rattle.fx_read_report.proofs.Running.{one_list}
 use Rattle.fx_read_report.proofs.Scans.{quote_read}
-use Rattle.fx_read_report.proofs.Texts.{AreAll, lines_join, report_is, report_lines_are, same_texts}
-use Rattle.fx_read_report.proofs.ValueLaws.{AreRowsIn, AreTextsIn, IsIn, ends_at, value_read}
+use Rattle.fx_read_report.proofs.FirstBad.{same_lines}
+use Rattle.fx_read_report.proofs.Texts.{entry_lines, reading, report_is, report_lines, report_lines_are}
+use Rattle.fx_read_report.proofs.ValueLaws.{AreRowsIn, IsIn, IsTextIn, value_read}
 
 abbrev free : Limits
 free = record { takes_text = λ text. true; takes_set = λ texts. true; path_of = λ text. Some (components text) }
@@ -32,20 +34,16 @@ free = record { takes_text = λ text. true; takes_set = λ texts. true; path_of 
 
 abbrev mutual
   size : Tree → ℕ
-  size (str text) = 0
-  size (int n) = 0
-  size (bool b) = 0
-  size (names texts) = 0
   size (pair a b) = suc (size a + size b)
-  size nothing = 0
   size (some a) = suc (size a)
   size (table rows) = suc (rows_size rows)
+  size other = 0
 
   rows_size : TreeRows → ℕ
   rows_size no_rows = 0
   rows_size (row key v rest) = size v + rows_size rest
 
-texts_in : (ts : List (List ℕ)) → AreTexts ts → AreTextsIn free ts
+texts_in : (ts : List (List ℕ)) → AreTexts ts → AllByRecursion (IsTextIn free) ts
 texts_in [] p = tt
 texts_in (t ∷ ts) p = (record { bytes = p.0; taken = refl }, texts_in ts p.1)
 
@@ -75,7 +73,7 @@ one_value v w p q e =
     let n = size v + size w in
     let read = value_at free (suc n) in
     let whole : value_text v ++ [] ≡ value_text w ++ [] = ap (λ t. t ++ []) e in
-    (some_pair_parts v w [] [] (sym (value_read free (suc n) v [] (held_in v n p (omega arith)) (ends_at v [] tt)) ∙ (ap read whole ∙ value_read free (suc n) w [] (held_in w n q (omega arith)) (ends_at w [] tt)))).0
+    (some_pair_parts v w [] [] (sym (value_read free (suc n) v [] (held_in v n p (omega arith)) tt) ∙ (ap read whole ∙ value_read free (suc n) w [] (held_in w n q (omega arith)) tt))).0
 
 -- ---- paths
 
@@ -116,64 +114,46 @@ path_in path p = record { bytes = path_bytes path p; taken = ap Some (names_read
 
 -- ---- lines
 
-abbrev IsHeldLine : Line → Type 0
-IsHeldLine head = Unit {0}
-IsHeldLine (entries n) = n < 2 ^ 64
-IsHeldLine (entry i k j e) = (i < 2 ^ 64) × (k < 2 ^ 32) × (j < 2 ^ 32) × IsHeldEnd e
-IsHeldLine (print v) = IsHeld v
-IsHeldLine (retries n) = n < 2 ^ 64
-IsHeldLine (retry r) = IsHeldRetry r
-IsHeldLine final = Unit {0}
-
 end_in : (e : End) → IsHeldEnd e → IsEndIn free e
 end_in end.Done p = tt
 end_in (end.Stopped c r) p = (p.0, λ path e. path_in path (subst IsHeldRefusal e p.1))
 end_in end.Aborted p = tt
 
 abbrev line_size : Line → ℕ
-line_size head = 0
-line_size (entries n) = 0
-line_size (entry i k j e) = 0
 line_size (print v) = size v
-line_size (retries n) = 0
-line_size (retry r) = 0
-line_size final = 0
+line_size other = 0
 
-line_in : (l : Line) (n : ℕ) → IsHeldLine l → line_size l ≤ n → IsLineIn free (suc n) l
-line_in head n p h = tt
-line_in (entries m) n p h = p
-line_in (entry i k j e) n p h = (p.0, p.1, p.2, end_in e p.3)
-line_in (print v) n p h = held_in v n p h
-line_in (retries m) n p h = p
-line_in (retry r) n p h = record { shell = p.shell; txn = p.txn; entry = p.entry; path = path_in r.path p.path }
-line_in final n p h = tt
+-- a line that a reader of enough levels reads
+abbrev IsHeldLine : Line → Type 0
+IsHeldLine l = (n : ℕ) → line_size l ≤ n → IsLineIn free (suc n) l
 
 held_one : (l k : Line) → IsHeldLine l → IsHeldLine k → line_text l ≡ line_text k → l ≡ k
 held_one l k p q e =
     let n = line_size l + line_size k in
-    one_line_in free (suc n) l k (line_in l n p (omega arith)) (line_in k n q (omega arith)) e
+    one_line_in free (suc n) l k (p n (omega arith)) (q n (omega arith)) e
 
-prints_held : (vs : List Tree) → AreTrees vs → AreAll IsHeldLine (map print vs)
+prints_held : (vs : List Tree) → AreTrees vs → AllByRecursion IsHeldLine (map print vs)
 prints_held [] p = tt
-prints_held (v ∷ vs) p = (p.0, prints_held vs p.1)
+prints_held (v ∷ vs) p = (λ n h. held_in v n p.0 h, prints_held vs p.1)
 
-entries_held : (i : ℕ) (es : List PrintedEntry) → i + length es < 2 ^ 64 → AreEntries es → AreAll IsHeldLine (entry_lines i es)
+entries_held : (i : ℕ) (es : List PrintedEntry) → i + length es < 2 ^ 64 → AreEntries es → AllByRecursion IsHeldLine (entry_lines i es)
 entries_held i [] few p = tt
 entries_held i (e ∷ es) few p =
-    ((omega arith, p.0.shell, p.0.txn, p.0.ended), lines_join IsHeldLine (map print e.outputs) (entry_lines (i + 1) es) (prints_held e.outputs p.0.outputs) (entries_held (i + 1) es (omega arith) p.1))
+    (λ n h. (omega arith, p.0.shell, p.0.txn, end_in e.end p.0.ended), all_both IsHeldLine (map print e.outputs) (entry_lines (i + 1) es) (prints_held e.outputs p.0.outputs) (entries_held (i + 1) es (omega arith) p.1))
 
-retries_held : (rs : List Retry) → AreRetries rs → AreAll IsHeldLine (map retry rs)
+retries_held : (rs : List Retry) → AreRetries rs → AllByRecursion IsHeldLine (map retry rs)
 retries_held [] p = tt
-retries_held (r ∷ rs) p = (p.0, retries_held rs p.1)
+retries_held (r ∷ rs) p = (λ n h. record { shell = p.0.shell; txn = p.0.txn; entry = p.0.entry; path = path_in r.path p.0.path }, retries_held rs p.1)
 
-report_held : (es : List PrintedEntry) (rs : List Retry) → IsHeldReport es rs → AreAll IsHeldLine (report_lines es rs)
+report_held : (es : List PrintedEntry) (rs : List Retry) → IsHeldReport es rs → AllByRecursion IsHeldLine (report_lines es rs)
 report_held es rs f =
-    (tt, (f.entries_fit, lines_join IsHeldLine (entry_lines 0 es) (retries (length rs) ∷ (map retry rs ++ final ∷ [])) (entries_held 0 es (let fit = f.entries_fit in omega arith) f.entries_held) (f.retries_fit, lines_join IsHeldLine (map retry rs) (final ∷ []) (retries_held rs f.retries_held) (tt, tt))))
+    let ends = all_both IsHeldLine (map retry rs) (final ∷ []) (retries_held rs f.retries_held) (λ n h. tt, tt) in
+    (λ n h. tt, (λ n h. f.entries_fit, all_both IsHeldLine (entry_lines 0 es) (retries (length rs) ∷ (map retry rs ++ final ∷ [])) (entries_held 0 es (let fit = f.entries_fit in omega arith) f.entries_held) (λ n h. f.retries_fit, ends)))
 
 -- ---- whole reports
 
-by_lines : (Is : Line → Type 0) → ((l k : Line) → Is l → Is k → line_text l ≡ line_text k → l ≡ k) → (es fs : List PrintedEntry) (rs ss : List Retry) → AreAll Is (report_lines es rs) → AreAll Is (report_lines fs ss) → report_text es rs ≡ report_text fs ss → (es ≡ fs) × (rs ≡ ss)
-by_lines Is one es fs rs ss p q e = one_list es fs rs ss (same_texts Is one (report_lines es rs) (report_lines fs ss) p q (sym (report_is es rs) ∙ (e ∙ report_is fs ss)))
+by_lines : (Is : Line → Type 0) → ((l k : Line) → Is l → Is k → line_text l ≡ line_text k → l ≡ k) → (es fs : List PrintedEntry) (rs ss : List Retry) → AllByRecursion Is (report_lines es rs) → AllByRecursion Is (report_lines fs ss) → report_text es rs ≡ report_text fs ss → (es ≡ fs) × (rs ≡ ss)
+by_lines Is one es fs rs ss p q e = one_list es fs rs ss (same_lines (reading Is one) (report_lines es rs) (report_lines fs ss) p q (sym (report_is es rs) ∙ (e ∙ report_is fs ss)))
 
 pub report_cancel : (es fs : List PrintedEntry) (rs ss : List Retry) → IsHeldReport es rs → IsHeldReport fs ss → report_text es rs ≡ report_text fs ss → (es ≡ fs) × (rs ≡ ss)
 report_cancel es fs rs ss p q e = by_lines IsHeldLine held_one es fs rs ss (report_held es rs p) (report_held fs ss q) e

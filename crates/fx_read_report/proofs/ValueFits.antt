@@ -1,5 +1,6 @@
 -- A value that was read is one that can be printed.
 use Rattle.std.proofs.Common.{◌≡◌, ℕ, zero, suc, ◌-◌, ◌^◌, ◌<◌, ◌≤◌, ℤ, pos, negsuc, Bool, true, false, cond, ◌||◌, nat_eq, nat_le, nat_lt, List, [], ◌∷◌, length, Option, Some, None, codes, refl, sym, ap, subst, ◌∙◌, arith}
+use Rattle.std.specs.List.{AllByRecursion}
 use Rattle.std.specs.Option.{option_map, option_and_then}
 use Rattle.std.proofs.lemmas.Bool.Decides.{nat_tests}
 use Rattle.std.proofs.lemmas.Bool.{cond_both}
@@ -13,7 +14,7 @@ use Rattle.fx_read_report.specs.declared.quotes.Place.{Place}
 use Rattle.fx_read_report.specs.declared.quotes.Place.TheVariants.{Plain, Escape, High, Low}
 use Rattle.fx_read_report.specs.declared.quotes.Step.{Step}
 use Rattle.fx_read_report.specs.declared.quotes.Step.TheVariants.{Go, Byte, End, Bad}
-use Rattle.fx_read_report.specs.Values.{ArePrintedRows, ArePrintedTexts, IsPrinted, IsPrintedText, Reader, before, keys_in, keys_of, kind_at, or_false, or_pieces, piece_at, pieces_at, row_at, set_within, table_within, text_at, value_at, value_by}
+use Rattle.fx_read_report.specs.Values.{ArePrintedRows, IsPrinted, IsPrintedText, Reader, before, keys_in, keys_of, kind_at, or_false, or_pieces, piece_at, pieces_at, row_at, set_within, table_within, text_at, value_at, value_by}
 use Rattle.fx_read_report.specs.declared.values.Kind.{Kind}
 use Rattle.fx_read_report.specs.declared.values.Kind.TheVariants as kind
 use Rattle.fx_read_report.proofs.ValueLoops.{ascends_is}
@@ -142,26 +143,18 @@ integer_fits bytes = integer_by_fits (after (codes "-") bytes) bytes
 
 -- ---- lists of pieces
 
-abbrev AreAll : {A : Type 0} → (A → Type 0) → List A → Type 0
-AreAll P [] = Unit {0}
-AreAll P (a ∷ ps) = P a × AreAll P ps
-
-or_fits : {A : Type 0} (P : A → Type 0) (o : Option (List ℕ)) (other : Option (List A × List ℕ)) → Fits (AreAll P) other → Fits (AreAll P) (or_pieces o other)
+or_fits : {A : Type 0} (P : A → Type 0) (o : Option (List ℕ)) (other : Option (List A × List ℕ)) → Fits (AllByRecursion P) other → Fits (AllByRecursion P) (or_pieces o other)
 or_fits P (Some rest) other h = tt
 or_fits P None other h = h
 
-pieces_fit : {A : Type 0} (P : A → Type 0) (read : List ℕ → Option (A × List ℕ)) (close : ℕ) → ((x : List ℕ) → Fits P (read x)) → (n : ℕ) (first : Bool) (bytes : List ℕ) → Fits (AreAll P) (pieces_at read close n first bytes)
+pieces_fit : {A : Type 0} (P : A → Type 0) (read : List ℕ → Option (A × List ℕ)) (close : ℕ) → ((x : List ℕ) → Fits P (read x)) → (n : ℕ) (first : Bool) (bytes : List ℕ) → Fits (AllByRecursion P) (pieces_at read close n first bytes)
 pieces_fit P read close each zero first bytes = tt
 pieces_fit P read close each (suc n) first bytes =
-    or_fits P (after (close ∷ []) bytes) _ (behind_fits (AreAll P) (piece_at bytes first) (λ start. option_and_then (λ r. option_map (λ m. (r.0 ∷ m.0, m.1)) (pieces_at read close n false r.1)) (read start)) (λ start.
-    then_fits P (AreAll P) (read start) (λ r. option_map (λ m. (r.0 ∷ m.0, m.1)) (pieces_at read close n false r.1)) (each start) (λ r p.
-    map_fits (AreAll P) (AreAll P) (pieces_at read close n false r.1) (λ l. r.0 ∷ l) (pieces_fit P read close each n false r.1) (λ l q. (p, q)))))
+    or_fits P (after (close ∷ []) bytes) _ (behind_fits (AllByRecursion P) (piece_at bytes first) (λ start. option_and_then (λ r. option_map (λ m. (r.0 ∷ m.0, m.1)) (pieces_at read close n false r.1)) (read start)) (λ start.
+    then_fits P (AllByRecursion P) (read start) (λ r. option_map (λ m. (r.0 ∷ m.0, m.1)) (pieces_at read close n false r.1)) (each start) (λ r p.
+    map_fits (AllByRecursion P) (AllByRecursion P) (pieces_at read close n false r.1) (λ l. r.0 ∷ l) (pieces_fit P read close each n false r.1) (λ l q. (p, q)))))
 
 -- ---- values
-
-all_texts : (ts : List (List ℕ)) → AreAll IsPrintedText ts → ArePrintedTexts ts
-all_texts [] p = tt
-all_texts (t ∷ ts) p = (p.0, all_texts ts p.1)
 
 module _ (levels : ℕ) (read : Reader) (inner : (x : List ℕ) → Fits (IsPrinted levels) (read x)) where
   abbrev RowFits : List ℕ × Tree → Type 0
@@ -170,7 +163,7 @@ module _ (levels : ℕ) (read : Reader) (inner : (x : List ℕ) → Fits (IsPrin
   abbrev Is : Tree → Type 0
   Is = IsPrinted (suc levels)
 
-  all_rows : (es : List (List ℕ × Tree)) → AreAll RowFits es → ArePrintedRows levels (rows es)
+  all_rows : (es : List (List ℕ × Tree)) → AllByRecursion RowFits es → ArePrintedRows levels (rows es)
   all_rows [] p = tt
   all_rows (e ∷ es) p = (p.0.0, p.0.1, all_rows es p.1)
 
@@ -198,8 +191,8 @@ module _ (levels : ℕ) (read : Reader) (inner : (x : List ℕ) → Fits (IsPrin
   by_fits kind.Truth x = truth_fits (after (codes "true") x) (after (codes "false") x)
   by_fits kind.Names x =
       behind_fits Is (after (codes "{") x) (λ y. option_and_then (set_within strict) (pieces_at (text_at strict) 125 (length x) true y)) (λ y.
-      then_fits (AreAll IsPrintedText) Is (pieces_at (text_at strict) 125 (length x) true y) (set_within strict) (pieces_fit IsPrintedText (text_at strict) 125 text_fits (length x) true y) (λ ts p.
-      if_fits Is (ascends ts.0) (Tree.names ts.0, ts.1) (λ e. (all_texts ts.0 p, ascends_is ts.0 e))))
+      then_fits (AllByRecursion IsPrintedText) Is (pieces_at (text_at strict) 125 (length x) true y) (set_within strict) (pieces_fit IsPrintedText (text_at strict) 125 text_fits (length x) true y) (λ ts p.
+      if_fits Is (ascends ts.0) (Tree.names ts.0, ts.1) (λ e. (p, ascends_is ts.0 e))))
   by_fits kind.Pair x =
       behind_fits Is (after (codes "<") x) (λ y. option_and_then (λ a. option_map (λ b. (Tree.pair a.0 b.0, b.1)) (before read (codes ">") a.1)) (before read (codes ", ") y)) (λ y.
       then_fits (IsPrinted levels) Is (before read (codes ", ") y) (λ a. option_map (λ b. (Tree.pair a.0 b.0, b.1)) (before read (codes ">") a.1)) (before_fits (codes ", ") y) (λ a p.
@@ -210,7 +203,7 @@ module _ (levels : ℕ) (read : Reader) (inner : (x : List ℕ) → Fits (IsPrin
       map_fits (IsPrinted levels) Is (before read (codes ")") y) Tree.some (before_fits (codes ")") y) (λ a p. p))
   by_fits kind.Table x =
       behind_fits Is (after (codes "[") x) (λ y. option_and_then (table_within strict) (pieces_at (row_at strict read) 93 (length x) true y)) (λ y.
-      then_fits (AreAll RowFits) Is (pieces_at (row_at strict read) 93 (length x) true y) (table_within strict) (pieces_fit RowFits (row_at strict read) 93 row_fits (length x) true y) (λ es p.
+      then_fits (AllByRecursion RowFits) Is (pieces_at (row_at strict read) 93 (length x) true y) (table_within strict) (pieces_fit RowFits (row_at strict read) 93 row_fits (length x) true y) (λ es p.
       if_fits Is (ascends (keys_of es.0)) (Tree.table (rows es.0), es.1) (λ e. (all_rows es.0 p, ascends_is (keys_in (rows es.0)) (ap ascends (sym (keys_same es.0)) ∙ e)))))
   by_fits kind.Other x = tt
 

@@ -1,7 +1,7 @@
 -- A value is read as it is spelled.
 use Rattle.std.proofs.Common.{◌≡◌, ℕ, zero, suc, ◌+◌, ◌^◌, ◌<◌, true, false, cond, nat_eq, pos, negsuc, List, [], ◌∷◌, ◌++◌, length, codes, Option, Some, None, refl, sym, ap, ◌∙◌, append_assoc, length-append, arith}
 use Rattle.std.specs.Fmt.{decimal}
-use Rattle.std.specs.List.{flat_map, join_by, list_all}
+use Rattle.std.specs.List.{AllByRecursion, flat_map, join_by, list_all}
 use Rattle.std.specs.Option.{option_map, option_and_then}
 use Rattle.std.proofs.lemmas.Bool.{and_parts}
 use Rattle.std.proofs.lemmas.Bool.Decides.{nat_tests}
@@ -12,7 +12,7 @@ use Rattle.fx_report.specs.Print.{comma, joined, quote, row_text, row_texts, val
 use Rattle.fx_report.proofs.Rows.{joined_rows}
 use Rattle.fx_read_report.specs.Limits.{Limits}
 use Rattle.fx_read_report.specs.Numbers.{EndsDigits, after, is_digit}
-use Rattle.fx_read_report.specs.Values.{EndsValue, Reader, before, keys_in, keys_of, kind_at, kind_of, or_false, or_pieces, piece_at, pieces_at, row_at, set_within, table_within, text_at, value_at, value_by}
+use Rattle.fx_read_report.specs.Values.{Reader, before, keys_in, keys_of, kind_at, kind_of, or_false, or_pieces, piece_at, pieces_at, row_at, set_within, table_within, text_at, value_at, value_by}
 use Rattle.fx_read_report.specs.declared.values.Kind.{Kind}
 use Rattle.fx_read_report.specs.declared.values.Kind.TheVariants as kind
 use Rattle.fx_read_report.proofs.Digits.{after_read, integer_read, own}
@@ -24,17 +24,13 @@ pub record IsTextIn (limits : Limits) (text : List ℕ) : Type 0 where
   pub bytes : AreBytes text
   pub taken : limits.takes_text text ≡ true
 
-abbrev pub AreTextsIn : Limits → List (List ℕ) → Type 0
-AreTextsIn limits [] = Unit {0}
-AreTextsIn limits (text ∷ rest) = IsTextIn limits text × AreTextsIn limits rest
-
 abbrev mutual
   pub IsIn : Limits → ℕ → Tree → Type 0
   IsIn limits zero v = ⊥
   IsIn limits (suc levels) (str text) = IsTextIn limits text
   IsIn limits (suc levels) (int n) = IsInteger n
   IsIn limits (suc levels) (bool b) = Unit {0}
-  IsIn limits (suc levels) (names texts) = AreTextsIn limits texts × (limits.takes_set texts ≡ true)
+  IsIn limits (suc levels) (names texts) = AllByRecursion (IsTextIn limits) texts × (limits.takes_set texts ≡ true)
   IsIn limits (suc levels) (pair a b) = IsIn limits levels a × IsIn limits levels b
   IsIn limits (suc levels) nothing = Unit {0}
   IsIn limits (suc levels) (some a) = IsIn limits levels a
@@ -71,16 +67,10 @@ decimal_kind n x small = number_kind (decimal n) x (digits_decimal own n small) 
 
 text_kind : (limits : Limits) (levels : ℕ) (v : Tree) (x : List ℕ) → IsIn limits (suc levels) v → kind_at (value_text v ++ x) ≡ kind_in v
 unfolding quote
-text_kind m l (str t) x p = refl
 text_kind m l (int (pos n)) x p = decimal_kind n x (omega arith)
-text_kind m l (int (negsuc n)) x p = refl
 text_kind m l (bool true) x p = refl
 text_kind m l (bool false) x p = refl
-text_kind m l (names ts) x p = refl
-text_kind m l (pair a b) x p = refl
-text_kind m l nothing x p = refl
-text_kind m l (some a) x p = refl
-text_kind m l (table rs) x p = refl
+text_kind m l v x p = refl
 
 -- ---- pieces
 
@@ -95,10 +85,6 @@ pub record Pieces (A : Type 0) : Type 1 where
   pub reads : (a : A) (x : List ℕ) → Is a → EndsDigits x → read (piece a ++ x) ≡ Some (a, x)
 
 module _ {A : Type 0} (l : Pieces A) where
-  abbrev pub AreAll : List A → Type 0
-  AreAll [] = Unit {0}
-  AreAll (a ∷ ps) = l.Is a × AreAll ps
-
   abbrev after_each : List A → List ℕ
   after_each ps = flat_map (λ a. comma ++ l.piece a) ps
 
@@ -113,7 +99,7 @@ module _ {A : Type 0} (l : Pieces A) where
   abbrev going : ℕ → Option (A × List ℕ) → Option (List A × List ℕ)
   going n o = option_and_then (λ r. option_map (λ m. (r.0 ∷ m.0, m.1)) (pieces_at l.read l.close n false r.1)) o
 
-  read_on : (ps : List A) (n : ℕ) (y : List ℕ) → AreAll ps → length ps < n → pieces_at l.read l.close n false (after_each ps ++ l.close ∷ y) ≡ Some (ps, y)
+  read_on : (ps : List A) (n : ℕ) (y : List ℕ) → AllByRecursion l.Is ps → length ps < n → pieces_at l.read l.close n false (after_each ps ++ l.close ∷ y) ≡ Some (ps, y)
   read_on ps zero y p h = absurd (omega arith)
   read_on [] (suc n) y p h = ap (λ o. or_pieces o (option_and_then (λ start. going n (l.read start)) (piece_at (l.close ∷ y) false))) (after_read (l.close ∷ []) y)
   read_on (a ∷ ps) (suc n) y p h =
@@ -124,7 +110,7 @@ module _ {A : Type 0} (l : Pieces A) where
       ∙ (ap (λ o. option_and_then (λ start. going n (l.read start)) o) (after_read (codes ", ") (l.piece a ++ x))
       ∙ (ap (going n) (l.reads a x p.0 (front_stops ps y)) ∙ ap (λ o. option_map (λ m. (a ∷ m.0, m.1)) o) (read_on ps n y p.1 (omega arith)))))
 
-  pub pieces_read : (ps : List A) (n : ℕ) (y : List ℕ) → AreAll ps → length ps < n → pieces_at l.read l.close n true (join_by l.piece comma ps ++ l.close ∷ y) ≡ Some (ps, y)
+  pub pieces_read : (ps : List A) (n : ℕ) (y : List ℕ) → AllByRecursion l.Is ps → length ps < n → pieces_at l.read l.close n true (join_by l.piece comma ps ++ l.close ∷ y) ≡ Some (ps, y)
   pieces_read ps zero y p h = absurd (omega arith)
   pieces_read [] (suc n) y p h = ap (λ o. or_pieces o (going n (l.read (l.close ∷ y)))) (after_read (l.close ∷ []) y)
   pieces_read (a ∷ ps) (suc n) y p h =
@@ -163,10 +149,6 @@ no_row_comma x = refl
 
 abbrev texts : Limits → Pieces (List ℕ)
 texts m = record { piece = quote; Is = IsTextIn m; close = 125; read = text_at m; marks = no_quote; other = no_comma; stops = λ x. refl; reads = λ t x p s. text_read m t x p }
-
-texts_all : (m : Limits) (ts : List (List ℕ)) → AreTextsIn m ts → AreAll (texts m) ts
-texts_all m [] p = tt
-texts_all m (t ∷ ts) p = (p.0, texts_all m ts p.1)
 
 row_form : (k v x : List ℕ) → ((k ++ codes " = ") ++ v) ++ x ≡ k ++ (codes " = " ++ (v ++ x))
 row_form k v x = simp append_assoc
@@ -212,19 +194,9 @@ table_text rs x =
     let same : joined (row_texts rs) ≡ join_by row_text comma (entries rs) = ap (λ r. joined (row_texts r)) (sym (rows_entries rs)) ∙ joined_rows (entries rs) in
     table_form (joined (row_texts rs)) x ∙ ap (λ t. codes "[" ++ (t ++ 93 ∷ x)) same
 
-pub ends_at : (v : Tree) (x : List ℕ) → EndsDigits x → EndsValue v x
-ends_at (str t) x s = tt
-ends_at (int n) x s = s
-ends_at (bool b) x s = tt
-ends_at (names ts) x s = tt
-ends_at (pair a b) x s = tt
-ends_at nothing x s = tt
-ends_at (some a) x s = tt
-ends_at (table rs) x s = tt
-
--- what is spelled is read, whatever stands behind it
+-- what is spelled is read, whatever stands behind it but a digit
 abbrev pub Reads : Limits → ℕ → Type 0
-Reads m levels = (v : Tree) (x : List ℕ) → IsIn m levels v → EndsValue v x → value_at m levels (value_text v ++ x) ≡ Some (v, x)
+Reads m levels = (v : Tree) (x : List ℕ) → IsIn m levels v → EndsDigits x → value_at m levels (value_text v ++ x) ≡ Some (v, x)
 
 module _ (m : Limits) (levels : ℕ) (later : Reads m levels) where
   abbrev read : Reader
@@ -239,10 +211,10 @@ module _ (m : Limits) (levels : ℕ) (later : Reads m levels) where
     marks = no_row;
     other = no_row_comma;
     stops = λ x. refl;
-    reads = λ e x p s. row_read m read e x p.0 (later e.1 x p.1 (ends_at e.1 x s));
+    reads = λ e x p s. row_read m read e x p.0 (later e.1 x p.1 s);
   }
 
-  rows_all : (rs : TreeRows) → AreRowsIn m levels rs → AreAll rows_of (entries rs)
+  rows_all : (rs : TreeRows) → AreRowsIn m levels rs → AllByRecursion rows_of.Is (entries rs)
   rows_all no_rows p = tt
   rows_all (row k v rs) p = ((p.0, p.1), rows_all rs p.2)
 
@@ -252,7 +224,7 @@ module _ (m : Limits) (levels : ℕ) (later : Reads m levels) where
   abbrev tables : Option (List (List ℕ × Tree) × List ℕ) → Option (Tree × List ℕ)
   tables o = option_and_then (table_within m) o
 
-  of_kind : (v : Tree) (x : List ℕ) → IsIn m (suc levels) v → EndsValue v x → value_by m read (kind_in v) (value_text v ++ x) ≡ Some (v, x)
+  of_kind : (v : Tree) (x : List ℕ) → IsIn m (suc levels) v → EndsDigits x → value_by m read (kind_in v) (value_text v ++ x) ≡ Some (v, x)
   of_kind (str t) x p s = ap (option_map (λ r. (str r.0, r.1))) (text_read m t x p)
   of_kind (int n) x p s = ap (option_map (λ r. (int r.0, r.1))) (integer_read n x p s)
   of_kind (bool true) x p s = ap (λ o. or_false o (after (codes "false") (codes "true" ++ x))) (after_read (codes "true") x)
@@ -262,20 +234,20 @@ module _ (m : Limits) (levels : ℕ) (later : Reads m levels) where
       let inner = join_by quote comma ts ++ 125 ∷ x in
       ap (value_by m read kind.Names) (set_form (join_by quote comma ts) x)
       ∙ (ap (λ o. option_and_then (λ i. sets (pieces_at (text_at m) 125 (suc (length inner)) true i)) o) (after_read (codes "{") inner)
-      ∙ (ap sets (pieces_read (texts m) ts (suc (length inner)) x (texts_all m ts p.0) (few_pieces (texts m) ts x)) ∙ ap (λ b. cond b (Some (names ts, x)) None) p.1))
+      ∙ (ap sets (pieces_read (texts m) ts (suc (length inner)) x p.0 (few_pieces (texts m) ts x)) ∙ ap (λ b. cond b (Some (names ts, x)) None) p.1))
   of_kind (pair a b) x p s =
       let second = value_text b ++ (codes ">" ++ x) in
       let inner = value_text a ++ (codes ", " ++ second) in
       ap (value_by m read kind.Pair) (pair_form (value_text a) (value_text b) x)
       ∙ (ap (λ o. option_and_then (λ i. option_and_then (λ r. option_map (λ q. (pair r.0 q.0, q.1)) (before read (codes ">") r.1)) (before read (codes ", ") i)) o) (after_read (codes "<") inner)
-      ∙ (ap (λ o. option_and_then (λ r. option_map (λ q. (pair r.0 q.0, q.1)) (before read (codes ">") r.1)) o) (before_read read a (codes ", ") second (later a (codes ", " ++ second) p.0 (ends_at a (codes ", " ++ second) refl)))
-      ∙ ap (λ o. option_map (λ q. (pair a q.0, q.1)) o) (before_read read b (codes ">") x (later b (codes ">" ++ x) p.1 (ends_at b (codes ">" ++ x) refl)))))
+      ∙ (ap (λ o. option_and_then (λ r. option_map (λ q. (pair r.0 q.0, q.1)) (before read (codes ">") r.1)) o) (before_read read a (codes ", ") second (later a (codes ", " ++ second) p.0 refl))
+      ∙ ap (λ o. option_map (λ q. (pair a q.0, q.1)) o) (before_read read b (codes ">") x (later b (codes ">" ++ x) p.1 refl))))
   of_kind nothing x p s = ap (λ o. option_map (λ r. (nothing, r)) o) (after_read (codes "none") x)
   of_kind (some a) x p s =
       let inner = value_text a ++ (codes ")" ++ x) in
       ap (value_by m read kind.Some) (some_form (value_text a) x)
       ∙ (ap (λ o. option_and_then (λ i. option_map (λ q. (some q.0, q.1)) (before read (codes ")") i)) o) (after_read (codes "some(") inner)
-      ∙ ap (λ o. option_map (λ q. (some q.0, q.1)) o) (before_read read a (codes ")") x (later a (codes ")" ++ x) p (ends_at a (codes ")" ++ x) refl))))
+      ∙ ap (λ o. option_map (λ q. (some q.0, q.1)) o) (before_read read a (codes ")") x (later a (codes ")" ++ x) p refl)))
   of_kind (table rs) x p s =
       let es = entries rs in
       let inner = join_by row_text comma es ++ 93 ∷ x in

@@ -1,6 +1,13 @@
--- Where the first line of bytes ends.
-use Rattle.std.specs.Prelude.{◌≡◌, ℕ, ◌+◌, ◌<◌, List, ◌∷◌, ◌++◌, length, take, drop, Option, Some, None}
-use Rattle.fx_read_report.specs.Form.{LacksFeed}
+-- Line feeds: bytes without one, and where the first line of bytes ends.
+use Rattle.std.specs.Prelude.{◌≡◌, ℕ, ◌+◌, ◌<◌, List, [], ◌∷◌, ◌++◌, length, take, drop, Option, Some, None}
+use Rattle.std.specs.List.{AllByRecursion}
+
+-- no byte is a line feed
+abbrev pub LacksFeed : List ℕ → Type 0
+LacksFeed bytes = AllByRecursion (λ b. b ≡ 10 → ⊥) bytes
+
+abbrev pub AllLackFeed : List (List ℕ) → Type 0
+AllLackFeed texts = AllByRecursion LacksFeed texts
 
 pub record IsFeedAt (bytes : List ℕ) (i : ℕ) : Type 0 where
   pub within : i < length bytes

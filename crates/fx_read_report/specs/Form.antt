@@ -1,6 +1,6 @@
 -- The form of a report, and the first line at which bytes leave it.
 use Rattle.std.specs.Prelude.{◌≡◌, ℕ, ◌^◌, ◌<◌, List, [], ◌∷◌, ◌++◌, length}
-use Rattle.std.specs.List.{flat_map}
+use Rattle.std.specs.List.{AllByRecursion, flat_map}
 use Rattle.fx_expr.specs.Tree.{Tree}
 use Rattle.fx_store.specs.Names.{IsPath}
 use Rattle.fx_spec.specs.declared.refusal.Refusal.{Refusal}
@@ -12,24 +12,14 @@ use Rattle.fx_report.specs.Report.{line, report_text}
 use Rattle.fx_report.specs.declared.printed.PrintedEntry.{PrintedEntry}
 use Rattle.fx_read_report.specs.declared.report.ReportFault.{ReportFault}
 use Rattle.fx_read_report.specs.declared.report.ReportFault.TheVariants.{BadLine, NoMemory}
+use Rattle.fx_read_report.specs.Feeds.{AllLackFeed}
 use Rattle.fx_read_report.specs.Values.{IsPrinted}
 use Rattle.fx_read_report.specs.declared.values.TheConstants.{VALUE_LEVELS}
 
 -- a refusal that names a path has one of at most 64 names
 abbrev pub IsFormRefusal : Refusal → Type 0
-IsFormRefusal refusal.NoStep = Unit {0}
-IsFormRefusal refusal.NoElement = Unit {0}
-IsFormRefusal refusal.NoPlace = Unit {0}
-IsFormRefusal refusal.Lacks = Unit {0}
-IsFormRefusal refusal.WrongForm = Unit {0}
 IsFormRefusal (refusal.Blocked path) = IsPath path
-IsFormRefusal refusal.TooDeep = Unit {0}
-IsFormRefusal refusal.BadName = Unit {0}
-IsFormRefusal refusal.NoDefault = Unit {0}
-IsFormRefusal (refusal.Expr fault) = Unit {0}
-IsFormRefusal refusal.Absent = Unit {0}
-IsFormRefusal refusal.Exists = Unit {0}
-IsFormRefusal refusal.TooUnfolded = Unit {0}
+IsFormRefusal other = Unit {0}
 
 -- the number of a command has 32 bits
 abbrev pub IsFormEnd : End → Type 0
@@ -38,8 +28,7 @@ IsFormEnd (end.Stopped command r) = (command < 2 ^ 32) × IsFormRefusal r
 IsFormEnd end.Aborted = Unit {0}
 
 abbrev pub ArePrinted : List Tree → Type 0
-ArePrinted [] = Unit {0}
-ArePrinted (v ∷ rest) = IsPrinted VALUE_LEVELS v × ArePrinted rest
+ArePrinted values = AllByRecursion (IsPrinted VALUE_LEVELS) values
 
 -- an entry with numbers of 32 bits and outputs that can be printed
 pub record IsFormEntry (e : PrintedEntry) : Type 0 where
@@ -49,8 +38,7 @@ pub record IsFormEntry (e : PrintedEntry) : Type 0 where
   pub ended : IsFormEnd e.end
 
 abbrev pub AreFormEntries : List PrintedEntry → Type 0
-AreFormEntries [] = Unit {0}
-AreFormEntries (e ∷ rest) = IsFormEntry e × AreFormEntries rest
+AreFormEntries entries = AllByRecursion IsFormEntry entries
 
 -- a retry with numbers of 32 bits, the number of an entry, and a path
 pub record IsFormRetry (r : Retry) : Type 0 where
@@ -60,8 +48,7 @@ pub record IsFormRetry (r : Retry) : Type 0 where
   pub path : IsPath r.path
 
 abbrev pub AreFormRetries : List Retry → Type 0
-AreFormRetries [] = Unit {0}
-AreFormRetries (r ∷ rest) = IsFormRetry r × AreFormRetries rest
+AreFormRetries retries = AllByRecursion IsFormRetry retries
 
 -- the lists of a report, which are counted by numbers of 64 bits
 pub record IsReportForm (entries : List PrintedEntry) (retries : List Retry) : Type 0 where
@@ -74,15 +61,6 @@ pub record IsReportForm (entries : List PrintedEntry) (retries : List Retry) : T
 pub record IsReportOf (bytes : List ℕ) (entries : List PrintedEntry) (retries : List Retry) : Type 0 where
   pub form : IsReportForm entries retries
   pub spelled : bytes ≡ report_text entries retries
-
--- no byte is a line feed
-abbrev pub LacksFeed : List ℕ → Type 0
-LacksFeed [] = Unit {0}
-LacksFeed (b ∷ rest) = (b ≡ 10 → ⊥) × LacksFeed rest
-
-abbrev pub AllLackFeed : List (List ℕ) → Type 0
-AllLackFeed [] = Unit {0}
-AllLackFeed (text ∷ rest) = LacksFeed text × AllLackFeed rest
 
 -- so many lines stand at the front of the bytes, each with its line feed, and begin the report of some lists
 pub record BeginsReport (bytes : List ℕ) (number : ℕ) : Type 0 where

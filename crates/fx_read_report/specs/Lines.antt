@@ -2,11 +2,9 @@
 use Rattle.std.specs.Prelude.{◌≡◌, ℕ, ◌+◌, ◌^◌, ◌<◌, List, [], ◌∷◌, ◌++◌, length, map, Option, Some, None, codes}
 use Rattle.fx_expr.specs.Tree.{Tree}
 use Rattle.fx_expr.specs.Views.{tree_of}
-use Rattle.fx_store.specs.Names.{path_text}
 use Rattle.fx_spec.specs.declared.refusal.End.{End}
 use Rattle.fx_machine.specs.declared.retry.Retry.{Retry}
-use Rattle.fx_report.specs.Print.{quote, value_text}
-use Rattle.fx_report.specs.Report.{end_text, field}
+use Rattle.fx_report.specs.Report.{entry_words, field, print_words, retry_words}
 use Rattle.fx_report.specs.declared.printed.PrintedEntry.{PrintedEntry}
 use Rattle.fx_read_report.specs.Values.{IsPrinted}
 use Rattle.fx_read_report.specs.declared.values.TheConstants.{VALUE_LEVELS}
@@ -27,10 +25,10 @@ pub data Line : Type 0 where
 abbrev pub line_text : Line → List ℕ
 line_text head = codes "forest report 1"
 line_text (entries n) = field (codes "entries ") n
-line_text (entry i shell txn end) = field (codes "entry ") i ++ field (codes " shell ") shell ++ field (codes " txn ") txn ++ codes " " ++ end_text end
-line_text (print v) = codes "print " ++ value_text v
+line_text (entry i shell txn end) = entry_words i shell txn end
+line_text (print v) = print_words v
 line_text (retries n) = field (codes "retries ") n
-line_text (retry r) = field (codes "retry shell ") r.shell ++ field (codes " txn ") r.txn ++ field (codes " entry ") r.entry ++ codes " path " ++ quote (path_text r.path)
+line_text (retry r) = retry_words r
 line_text final = codes "end"
 
 -- the numbers of a line fit, and what it prints can be printed
@@ -42,15 +40,6 @@ IsLine (print v) = IsPrinted VALUE_LEVELS v
 IsLine (retries n) = n < 2 ^ 64
 IsLine (retry r) = IsFormRetry r
 IsLine final = Unit {0}
-
--- the lines of entries that are numbered from i
-abbrev pub entry_lines : ℕ → List PrintedEntry → List Line
-entry_lines i [] = []
-entry_lines i (e ∷ rest) = entry i e.shell e.txn e.end ∷ (map print e.outputs ++ entry_lines (i + 1) rest)
-
--- the lines of a report
-abbrev pub report_lines : List PrintedEntry → List Retry → List Line
-report_lines es rs = head ∷ entries (length es) ∷ (entry_lines 0 es ++ (retries (length rs) ∷ (map retry rs ++ final ∷ [])))
 
 -- the bytes are this line, or no line
 abbrev pub FindsLine : List ℕ → Option Line → Type 0

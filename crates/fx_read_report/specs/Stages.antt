@@ -1,11 +1,10 @@
 -- How far a report is read, and which line may follow.
-use Rattle.std.specs.Prelude.{◌≡◌, ℕ, ◌^◌, ◌<◌, ◌≤◌, Bool, true, false, cond, Option, Some, None, ◌&&◌, nat_eq, nat_lt, List, [], ◌∷◌, ◌++◌, length, map}
+use Rattle.std.specs.Prelude.{◌≡◌, ℕ, Bool, true, false, cond, Option, Some, None, ◌&&◌, nat_eq, nat_lt, List, [], ◌∷◌, ◌++◌, length}
 use Rattle.fx_expr.specs.Tree.{Tree}
 use Rattle.fx_spec.specs.declared.refusal.End.{End}
 use Rattle.fx_machine.specs.declared.retry.Retry.{Retry}
 use Rattle.fx_report.specs.declared.printed.PrintedEntry.{PrintedEntry}
-use Rattle.fx_read_report.specs.Form.{AreFormEntries, AreFormRetries}
-use Rattle.fx_read_report.specs.Lines.{Line, IsLine, line_text, head, entries, entry, print, retries, retry, final, entry_lines, report_lines}
+use Rattle.fx_read_report.specs.Lines.{Line, IsLine, line_text, head, entries, entry, print, retries, retry, final}
 use Rattle.fx_read_report.specs.declared.reading.Stage.{Stage}
 use Rattle.fx_read_report.specs.declared.reading.Stage.TheVariants as stage
 use Rattle.fx_read_report.specs.declared.reading.Reading.{Reading}
@@ -16,69 +15,21 @@ pub record State : Type 0 where
   pub entries : List PrintedEntry
   pub retries : List Retry
 
+abbrev pub at : Stage → List PrintedEntry → List Retry → State
+at g es rs = record { stage = g; entries = es; retries = rs }
+
 abbrev pub state_of : Reading → State
-state_of r = record { stage = r.stage; entries = r.entries.items; retries = r.retries }
+state_of r = at r.stage r.entries.items r.retries
 
-abbrev pub is_start : Stage → Bool
-is_start stage.Start = true
-is_start stage.Headed = false
-is_start (stage.Entries n) = false
-is_start (stage.Retries n) = false
-is_start stage.Ended = false
+abbrev pub start_state : State
+start_state = at stage.Start [] []
 
-abbrev pub is_headed : Stage → Bool
-is_headed stage.Start = false
-is_headed stage.Headed = true
-is_headed (stage.Entries n) = false
-is_headed (stage.Retries n) = false
-is_headed stage.Ended = false
+abbrev pub is_ended : Stage → Bool
+is_ended stage.Ended = true
+is_ended other = false
 
--- entries are numbered from 0, up to the count
-abbrev pub enters : Stage → ℕ → ℕ → Bool
-enters stage.Start count i = false
-enters stage.Headed count i = false
-enters (stage.Entries n) count i = nat_eq i count && nat_lt count n
-enters (stage.Retries n) count i = false
-enters stage.Ended count i = false
-
--- what is printed belongs to the last entry
-abbrev pub prints : Stage → ℕ → Bool
-prints stage.Start count = false
-prints stage.Headed count = false
-prints (stage.Entries n) count = nat_lt 0 count
-prints (stage.Retries n) count = false
-prints stage.Ended count = false
-
-abbrev pub counts : Stage → ℕ → Bool
-counts stage.Start count = false
-counts stage.Headed count = false
-counts (stage.Entries n) count = nat_eq count n
-counts (stage.Retries n) count = false
-counts stage.Ended count = false
-
-abbrev pub repeats : Stage → ℕ → Bool
-repeats stage.Start count = false
-repeats stage.Headed count = false
-repeats (stage.Entries n) count = false
-repeats (stage.Retries n) count = nat_lt count n
-repeats stage.Ended count = false
-
-abbrev pub ends : Stage → ℕ → Bool
-ends stage.Start count = false
-ends stage.Headed count = false
-ends (stage.Entries n) count = false
-ends (stage.Retries n) count = nat_eq count n
-ends stage.Ended count = false
-
--- whether a line may follow at a stage, behind so many entries and retries
-abbrev pub allows : Stage → ℕ → ℕ → Line → Bool
-allows at es rs head = is_start at
-allows at es rs (entries n) = is_headed at
-allows at es rs (entry i shell txn end) = enters at es i
-allows at es rs (print v) = prints at es
-allows at es rs (retries n) = counts at es
-allows at es rs (retry r) = repeats at rs
-allows at es rs final = ends at rs
+abbrev pub entry_begun : ℕ → ℕ → End → PrintedEntry
+entry_begun shell txn end = record { shell = shell; txn = txn; outputs = []; end = end }
 
 -- the last entry with one output more
 abbrev pub with_last_output : List PrintedEntry → Tree → List PrintedEntry
@@ -86,62 +37,22 @@ with_last_output [] v = []
 with_last_output (e ∷ []) v = record { shell = e.shell; txn = e.txn; outputs = e.outputs ++ v ∷ []; end = e.end } ∷ []
 with_last_output (e ∷ f ∷ rest) v = e ∷ with_last_output (f ∷ rest) v
 
-abbrev pub entry_begun : ℕ → ℕ → End → PrintedEntry
-entry_begun shell txn end = record { shell = shell; txn = txn; outputs = []; end = end }
+-- A report with one line more, if this line may follow: the head, the count of entries, the entries numbered from 0 up to
+-- it, each with its outputs behind it, the count of retries, as many of them, and a last line.
+abbrev pub next_at : Stage → List PrintedEntry → List Retry → Line → Option State
+next_at stage.Start es rs head = Some (at stage.Headed es rs)
+next_at stage.Headed es rs (entries n) = Some (at (stage.Entries n) es rs)
+next_at (stage.Entries n) es rs (entry i shell txn end) = cond (nat_eq i (length es) && nat_lt (length es) n) (Some (at (stage.Entries n) (es ++ entry_begun shell txn end ∷ []) rs)) None
+next_at (stage.Entries n) es rs (print v) = cond (nat_lt 0 (length es)) (Some (at (stage.Entries n) (with_last_output es v) rs)) None
+next_at (stage.Entries n) es rs (retries m) = cond (nat_eq (length es) n) (Some (at (stage.Retries m) es rs)) None
+next_at (stage.Retries n) es rs (retry r) = cond (nat_lt (length rs) n) (Some (at (stage.Retries n) es (rs ++ r ∷ []))) None
+next_at (stage.Retries n) es rs final = cond (nat_eq (length rs) n) (Some (at stage.Ended es rs)) None
+next_at g es rs l = None
 
--- the report with one line more
-abbrev pub advanced : State → Line → State
-advanced s head = record { stage = stage.Headed; entries = s.entries; retries = s.retries }
-advanced s (entries n) = record { stage = stage.Entries n; entries = s.entries; retries = s.retries }
-advanced s (entry i shell txn end) = record { stage = s.stage; entries = s.entries ++ entry_begun shell txn end ∷ []; retries = s.retries }
-advanced s (print v) = record { stage = s.stage; entries = with_last_output s.entries v; retries = s.retries }
-advanced s (retries n) = record { stage = stage.Retries n; entries = s.entries; retries = s.retries }
-advanced s (retry r) = record { stage = s.stage; entries = s.entries; retries = s.retries ++ r ∷ [] }
-advanced s final = record { stage = stage.Ended; entries = s.entries; retries = s.retries }
-
--- the lines that were read
-abbrev pub lines_at : Stage → List PrintedEntry → List Retry → List Line
-lines_at stage.Start es rs = []
-lines_at stage.Headed es rs = head ∷ []
-lines_at (stage.Entries n) es rs = head ∷ entries n ∷ entry_lines 0 es
-lines_at (stage.Retries n) es rs = head ∷ entries (length es) ∷ (entry_lines 0 es ++ retries n ∷ map retry rs)
-lines_at stage.Ended es rs = report_lines es rs
-
-abbrev pub lines_of_state : State → List Line
-lines_of_state s = lines_at s.stage s.entries s.retries
-
--- what was read fits what was announced
-abbrev pub Fits : Stage → List PrintedEntry → List Retry → Type 0
-Fits stage.Start es rs = (es ≡ []) × (rs ≡ [])
-Fits stage.Headed es rs = (es ≡ []) × (rs ≡ [])
-Fits (stage.Entries n) es rs = (length es ≤ n) × (n < 2 ^ 64) × (rs ≡ [])
-Fits (stage.Retries n) es rs = (length es < 2 ^ 64) × (length rs ≤ n) × (n < 2 ^ 64)
-Fits stage.Ended es rs = (length es < 2 ^ 64) × (length rs < 2 ^ 64)
-
-pub record IsState (s : State) : Type 0 where
-  pub entries_form : AreFormEntries s.entries
-  pub retries_form : AreFormRetries s.retries
-  pub fits : Fits s.stage s.entries s.retries
-
-abbrev pub start_state : State
-start_state = record { stage = stage.Start; entries = []; retries = [] }
-
-abbrev pub is_ended : Stage → Bool
-is_ended stage.Start = false
-is_ended stage.Headed = false
-is_ended (stage.Entries n) = false
-is_ended (stage.Retries n) = false
-is_ended stage.Ended = true
-
--- whether a line may follow what was read
-abbrev pub may_follow : State → Line → Bool
-may_follow s l = allows s.stage (length s.entries) (length s.retries) l
-
--- the report with one line more, if this line may follow
 abbrev pub with_line : State → Line → Option State
-with_line s l = cond (may_follow s l) (Some (advanced s l)) None
+with_line s l = next_at s.stage s.entries s.retries l
 
--- a line is taken, or no report goes on with it
+-- a text is taken as a line, or is none that may follow
 abbrev pub TakesText : State → List ℕ → State → Bool → Type 0
-TakesText old text new true = (l : Line) × IsLine l × (text ≡ line_text l) × IsState new × (lines_of_state new ≡ lines_of_state old ++ l ∷ [])
-TakesText old text new false = (l : Line) → IsLine l → text ≡ line_text l → (fs : List PrintedEntry) (ss : List Retry) (more : List Line) → report_lines fs ss ≡ lines_of_state old ++ l ∷ more → ⊥
+TakesText old text new true = (l : Line) × IsLine l × (text ≡ line_text l) × (with_line old l ≡ Some new)
+TakesText old text new false = (l : Line) → IsLine l → text ≡ line_text l → with_line old l ≡ None

@@ -2,6 +2,7 @@
 -- read is told apart by printing it again.
 use Rattle.std.specs.Prelude.{ℕ, zero, suc, ◌||◌, Bool, true, false, cond, nat_eq, List, [], ◌∷◌, length, Option, Some, None, codes}
 use Rattle.std.specs.Borrow.{Bor}
+use Rattle.std.specs.List.{AllByRecursion}
 use Rattle.std.specs.Option.{option_map, option_and_then}
 use Rattle.fx_expr.specs.Bytes.{IsText}
 use Rattle.fx_expr.specs.Sets.{IsAscending}
@@ -10,7 +11,7 @@ use Rattle.fx_expr.specs.Views.{tree_of}
 use Rattle.fx_expr.specs.declared.value.Value.{Value}
 use Rattle.fx_report.specs.Readable.{AreBytes, IsInteger}
 use Rattle.fx_read_report.specs.Limits.{Limits}
-use Rattle.fx_read_report.specs.Numbers.{EndsDigits, after, is_digit, leading_integer}
+use Rattle.fx_read_report.specs.Numbers.{after, is_digit, leading_integer}
 use Rattle.fx_read_report.specs.Quotes.{unquoted}
 use Rattle.fx_read_report.specs.declared.values.Kind.{Kind}
 use Rattle.fx_read_report.specs.declared.values.Kind.TheVariants as kind
@@ -19,10 +20,6 @@ use Rattle.fx_read_report.specs.declared.values.Kind.TheVariants as kind
 pub record IsPrintedText (text : List ℕ) : Type 0 where
   pub bytes : AreBytes text
   pub short : IsText text
-
-abbrev pub ArePrintedTexts : List (List ℕ) → Type 0
-ArePrintedTexts [] = Unit {0}
-ArePrintedTexts (text ∷ rest) = IsPrintedText text × ArePrintedTexts rest
 
 -- the texts of a table
 abbrev pub keys_in : TreeRows → List (List ℕ)
@@ -37,7 +34,7 @@ abbrev mutual
   IsPrinted (suc levels) (str text) = IsPrintedText text
   IsPrinted (suc levels) (int n) = IsInteger n
   IsPrinted (suc levels) (bool b) = Unit {0}
-  IsPrinted (suc levels) (names texts) = ArePrintedTexts texts × IsAscending texts
+  IsPrinted (suc levels) (names texts) = AllByRecursion IsPrintedText texts × IsAscending texts
   IsPrinted (suc levels) (pair a b) = IsPrinted levels a × IsPrinted levels b
   IsPrinted (suc levels) nothing = Unit {0}
   IsPrinted (suc levels) (some a) = IsPrinted levels a
@@ -46,17 +43,6 @@ abbrev mutual
   pub ArePrintedRows : ℕ → TreeRows → Type 0
   ArePrintedRows levels no_rows = Unit {0}
   ArePrintedRows levels (row key v rest) = IsPrintedText key × IsPrinted levels v × ArePrintedRows levels rest
-
--- behind an integer stands no digit
-abbrev pub EndsValue : Tree → List ℕ → Type 0
-EndsValue (str text) rest = Unit {0}
-EndsValue (int n) rest = EndsDigits rest
-EndsValue (bool b) rest = Unit {0}
-EndsValue (names texts) rest = Unit {0}
-EndsValue (pair a b) rest = Unit {0}
-EndsValue nothing rest = Unit {0}
-EndsValue (some a) rest = Unit {0}
-EndsValue (table rows) rest = Unit {0}
 
 -- the kind of value that begins with a byte
 abbrev pub kind_of : ℕ → Kind

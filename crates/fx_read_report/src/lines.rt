@@ -2,7 +2,7 @@
 ghost use Rattle.std.specs.Prelude.{◌≡◌, ◌++◌, IfOk, IfSome, OnOk, bytes_eq, slice_index};
 ghost use Rattle.std.specs.Option.{option_map};
 ghost use Rattle.fx_read_report.specs.Limits.{strict};
-ghost use Rattle.fx_read_report.specs.Lines.{FindsLine, IsLine, entry, held_line, line_text, retry};
+ghost use Rattle.fx_read_report.specs.Lines.{FindsLine, IsLine, held_line, line_text};
 ghost use Rattle.fx_read_report.specs.Reads.{entries_at, entry_at, final_at, head_at, only_line, print_at, retries_at, retry_at};
 ghost use Rattle.fx_read_report.specs.Kinds.{kind_by, kind_of};
 
@@ -12,7 +12,7 @@ use crate::values::{VALUE_LEVELS, read_value};
 use fx_base::NoMemory;
 use fx_expr::Value;
 use fx_machine::Retry;
-use fx_report::{add_bytes, add_end, add_field, add_quoted_path, add_value};
+use fx_report::{add_bytes, add_entry_words, add_field, add_print_words, add_retry_words};
 use fx_spec::End;
 use std::alloc::Global;
 
@@ -216,35 +216,6 @@ fn line_in(alloc: Global, text: &[u8]) -> Result<Option<Line>, NoMemory>
     }
 }
 
-fn add_entry(
-    out: &mut Vec<u8>,
-    number: u64,
-    shell: u32,
-    txn: u32,
-    end: &End,
-) -> Result<(), NoMemory>
-    ensures { OnOk result
-        (out.new.items ≡ out.old.items ++ line_text (entry number shell txn end.now)) }
-{
-    add_field(out, b"entry ", number)?;
-    add_field(out, b" shell ", u64::from(shell))?;
-    add_field(out, b" txn ", u64::from(txn))?;
-    add_bytes(out, b" ")?;
-    add_end(out, end)?;
-    Ok(())
-}
-
-fn add_retry(out: &mut Vec<u8>, told: &Retry) -> Result<(), NoMemory>
-    ensures { OnOk result (out.new.items ≡ out.old.items ++ line_text (retry told.now)) }
-{
-    add_field(out, b"retry shell ", u64::from(told.shell))?;
-    add_field(out, b" txn ", u64::from(told.txn))?;
-    add_field(out, b" entry ", told.entry)?;
-    add_bytes(out, b" path ")?;
-    add_quoted_path(out, &told.path)?;
-    Ok(())
-}
-
 /// Adds a line, without its line feed.
 fn add_line(out: &mut Vec<u8>, line: &Line) -> Result<(), NoMemory>
     ensures { OnOk result (out.new.items ≡ out.old.items ++ line_text (held_line line.now)) }
@@ -257,13 +228,10 @@ fn add_line(out: &mut Vec<u8>, line: &Line) -> Result<(), NoMemory>
             shell,
             txn,
             end,
-        } => add_entry(out, *number, *shell, *txn, end),
-        Line::Print(value) => {
-            add_bytes(out, b"print ")?;
-            add_value(out, value)
-        }
+        } => add_entry_words(out, *number, *shell, *txn, end),
+        Line::Print(value) => add_print_words(out, value),
         Line::Retries(number) => add_field(out, b"retries ", *number),
-        Line::Retry(retry) => add_retry(out, retry),
+        Line::Retry(retry) => add_retry_words(out, retry),
         Line::Final => add_bytes(out, b"end"),
     }
 }

@@ -8,7 +8,7 @@ use itoa::Buffer;
 use std::str;
 
 /// What stands behind the words, if the bytes begin with them.
-#[tactic(auto, unfolding(crate::specs::Numbers::after))]
+#[tactic(auto, using(crate::proofs::Digits::after_is))]
 pub(crate) fn after<'a>(bytes: &'a [u8], words: &[u8]) -> Option<&'a [u8]>
     ensures { option_map (λ rest. rest.now) result ≡ after words.now bytes.now }
 {
@@ -57,7 +57,7 @@ fn number_of(digits: &[u8]) -> Option<u64>
 }
 
 /// The number at the front, up to the first byte that is no digit, and what stands behind it.
-#[tactic(auto, unfolding(crate::specs::Numbers::leading_number))]
+#[tactic(auto, using(crate::proofs::Digits::front_digits), unfolding(crate::specs::Numbers::leading_number))]
 pub(crate) fn leading_number(bytes: &[u8]) -> Option<(u64, &[u8])>
     ensures { option_map (λ r. (r.0, r.1.now)) result ≡ leading_number bytes.now }
 {

@@ -1,8 +1,8 @@
 //! How far a report is read, and which line may follow.
-ghost use Rattle.std.specs.Prelude.{◌≡◌, IfOk, OnOk};
+ghost use Rattle.std.specs.Prelude.{◌≡◌, cond, IfOk, None, OnOk, Some};
 ghost use Rattle.fx_expr.specs.Views.{tree_of};
 ghost use Rattle.fx_read_report.specs.Lines.{held_line};
-ghost use Rattle.fx_read_report.specs.Stages.{advanced, allows, counts, ends, enters, is_ended, is_headed, is_start, may_follow, with_last_output, prints, repeats, start_state, state_of};
+ghost use Rattle.fx_read_report.specs.Stages.{is_ended, with_line, with_last_output, start_state, state_of};
 
 use crate::lines::Line;
 use fx_base::NoMemory;
@@ -27,111 +27,6 @@ pub(crate) struct Reading {
     stage: Stage,
     entries: Vec<PrintedEntry>,
     retries: Retries,
-}
-
-fn is_start(stage: Stage) -> bool
-    ensures { result ≡ is_start stage }
-{
-    match stage {
-        Stage::Start => true,
-        Stage::Headed => false,
-        Stage::Entries(_) => false,
-        Stage::Retries(_) => false,
-        Stage::Ended => false,
-    }
-}
-
-fn is_headed(stage: Stage) -> bool
-    ensures { result ≡ is_headed stage }
-{
-    match stage {
-        Stage::Start => false,
-        Stage::Headed => true,
-        Stage::Entries(_) => false,
-        Stage::Retries(_) => false,
-        Stage::Ended => false,
-    }
-}
-
-fn enters(stage: Stage, entries: u64, number: u64) -> bool
-    ensures { result ≡ enters stage entries number }
-{
-    match stage {
-        Stage::Start => false,
-        Stage::Headed => false,
-        Stage::Entries(count) => {
-            if number == entries {
-                entries < count
-            } else {
-                false
-            }
-        }
-        Stage::Retries(_) => false,
-        Stage::Ended => false,
-    }
-}
-
-fn prints(stage: Stage, entries: u64) -> bool
-    ensures { result ≡ prints stage entries }
-{
-    match stage {
-        Stage::Start => false,
-        Stage::Headed => false,
-        Stage::Entries(_) => entries > 0,
-        Stage::Retries(_) => false,
-        Stage::Ended => false,
-    }
-}
-
-fn counts(stage: Stage, entries: u64) -> bool
-    ensures { result ≡ counts stage entries }
-{
-    match stage {
-        Stage::Start => false,
-        Stage::Headed => false,
-        Stage::Entries(count) => entries == count,
-        Stage::Retries(_) => false,
-        Stage::Ended => false,
-    }
-}
-
-fn repeats(stage: Stage, retries: u64) -> bool
-    ensures { result ≡ repeats stage retries }
-{
-    match stage {
-        Stage::Start => false,
-        Stage::Headed => false,
-        Stage::Entries(_) => false,
-        Stage::Retries(count) => retries < count,
-        Stage::Ended => false,
-    }
-}
-
-fn ends(stage: Stage, retries: u64) -> bool
-    ensures { result ≡ ends stage retries }
-{
-    match stage {
-        Stage::Start => false,
-        Stage::Headed => false,
-        Stage::Entries(_) => false,
-        Stage::Retries(count) => retries == count,
-        Stage::Ended => false,
-    }
-}
-
-/// Whether the line may follow at a stage, behind so many entries and retries.
-fn allows(stage: Stage, entries: u64, retries: u64, line: &Line) -> bool
-    ensures { result ≡ allows stage entries retries (held_line line.now) }
-{
-    match line {
-        Line::Head => is_start(stage),
-        Line::Entries(_) => is_headed(stage),
-        Line::Entry { number, .. } => enters(stage, entries, *number),
-        Line::Print(_) => prints(stage, entries),
-        Line::Retries(_) => counts(stage, entries),
-        Line::Retry(_) => repeats(stage, retries),
-        Line::Final => ends(stage, retries),
-    }
 }
 
 /// The entries as a list of their own.
@@ -176,65 +71,67 @@ impl Reading {
     pub(crate) fn is_ended(&self) -> bool
         ensures { result ≡ is_ended self.now.stage }
     {
-        match self.stage {
-            Stage::Start => false,
-            Stage::Headed => false,
-            Stage::Entries(_) => false,
-            Stage::Retries(_) => false,
-            Stage::Ended => true,
-        }
+        matches!(self.stage, Stage::Ended)
     }
 
-    /// Whether the line may follow.
-    pub(crate) fn allows(&self, line: &Line) -> bool
-        ensures { result ≡ may_follow (state_of self.now) (held_line line.now) }
+    /// Takes the line, if it may follow.
+    pub(crate) fn take(&mut self, alloc: Global, line: Line) -> Result<bool, NoMemory>
+        ensures { IfOk result (λ taken. with_line (state_of self.old) (held_line line)
+            ≡ cond taken (Some (state_of self.new)) None) }
     {
-        allows(
-            self.stage,
-            self.entries.as_slice().len() as u64,
-            self.retries.len() as u64,
-            line,
-        )
-    }
-
-    /// Takes a line that may follow.
-    pub(crate) fn take(&mut self, alloc: Global, line: Line) -> Result<(), NoMemory>
-        ensures { OnOk result (state_of self.new ≡ advanced (state_of self.old) (held_line line)) }
-    {
-        match line {
-            Line::Head => {
-                self.stage = Stage::Headed;
-                Ok(())
-            }
-            Line::Entries(count) => {
-                self.stage = Stage::Entries(count);
-                Ok(())
-            }
-            Line::Entry {
-                number: _,
-                shell,
-                txn,
-                end,
-            } => {
+        match (self.stage, line) {
+            (Stage::Start, Line::Head) => self.stage = Stage::Headed,
+            (Stage::Headed, Line::Entries(count)) => self.stage = Stage::Entries(count),
+            (
+                Stage::Entries(count),
+                Line::Entry {
+                    number,
+                    shell,
+                    txn,
+                    end,
+                },
+            ) => {
+                let entries = self.entries.as_slice().len() as u64;
+                if number != entries {
+                    return Ok(false);
+                }
+                if entries >= count {
+                    return Ok(false);
+                }
                 self.entries.push(PrintedEntry {
                     shell,
                     txn,
                     outputs: Values::new(alloc),
                     end,
                 })?;
-                Ok(())
             }
-            Line::Print(value) => print(alloc, &mut self.entries, value),
-            Line::Retries(count) => {
-                self.stage = Stage::Retries(count);
-                Ok(())
+            (Stage::Entries(_), Line::Print(value)) => {
+                if self.entries.as_slice().is_empty() {
+                    return Ok(false);
+                }
+                print(alloc, &mut self.entries, value)?;
             }
-            Line::Retry(retry) => self.retries.push(retry),
-            Line::Final => {
+            (Stage::Entries(count), Line::Retries(more)) => {
+                if self.entries.as_slice().len() as u64 != count {
+                    return Ok(false);
+                }
+                self.stage = Stage::Retries(more);
+            }
+            (Stage::Retries(count), Line::Retry(retry)) => {
+                if self.retries.len() as u64 >= count {
+                    return Ok(false);
+                }
+                self.retries.push(retry)?;
+            }
+            (Stage::Retries(count), Line::Final) => {
+                if self.retries.len() as u64 != count {
+                    return Ok(false);
+                }
                 self.stage = Stage::Ended;
-                Ok(())
             }
+            _ => return Ok(false),
         }
+        Ok(true)
     }
 
     /// The entries and the retries that were read.

@@ -2,7 +2,7 @@
 ghost use Rattle.std.specs.Prelude.{IfOk, IfErr};
 ghost use Rattle.fx_read_report.specs.Form.{IsReportOf, ReportCause};
 ghost use Rattle.fx_read_report.specs.Feeds.{FindsFeed};
-ghost use Rattle.fx_read_report.specs.Stages.{IsState, TakesText, state_of};
+ghost use Rattle.fx_read_report.specs.Stages.{TakesText, state_of};
 
 use crate::lines::read_line;
 use crate::reading::Reading;
@@ -43,6 +43,7 @@ impl From<NoMemory> for ReportFault {
 }
 
 /// The place of the first line feed.
+#[tactic(auto, using(crate::proofs::Printing::none_yet, crate::proofs::Printing::none_more, crate::proofs::Printing::feed_at, crate::proofs::Printing::none_at_all))]
 fn feed_in(bytes: &[u8]) -> Option<usize>
     ensures { FindsFeed bytes.now result }
 {
@@ -61,17 +62,12 @@ fn take_text(
     out: &mut Vec<u8>,
     reading: &mut Reading,
 ) -> Result<bool, NoMemory>
-    requires { IsState (state_of reading.old) }
     ensures { IfOk result (TakesText (state_of reading.old) text.now (state_of reading.new)) }
 {
-    let Some(line) = read_line(alloc, text, out)? else {
-        return Ok(false);
-    };
-    if !reading.allows(&line) {
-        return Ok(false);
+    match read_line(alloc, text, out)? {
+        Some(line) => reading.take(alloc, line),
+        None => Ok(false),
     }
-    reading.take(alloc, line)?;
-    Ok(true)
 }
 
 /// Reads a report. Bytes have its form where they are the report of some entries and retries whose numbers fit their

@@ -2,7 +2,7 @@
 use Rattle.std.specs.Prelude.{◌≡◌, ℕ, ◌^◌, ◌<◌, false, nat_eq, ℤ, pos, negsuc, List, [], ◌∷◌, ◌++◌, length}
 use Rattle.fx_expr.specs.Tree.{Tree, TreeRows, str, int, bool, names, pair, nothing, some, table, no_rows, row}
 use Rattle.fx_spec.specs.declared.refusal.Refusal.{Refusal}
-use Rattle.fx_spec.specs.declared.refusal.Refusal.TheVariants.{NoStep, NoElement, NoPlace, Lacks, WrongForm, Blocked, TooDeep, BadName, NoDefault, Expr, Absent, Exists, TooUnfolded}
+use Rattle.fx_spec.specs.declared.refusal.Refusal.TheVariants.{Blocked}
 use Rattle.fx_spec.specs.declared.refusal.End.{End}
 use Rattle.fx_spec.specs.declared.refusal.End.TheVariants.{Done, Stopped, Aborted}
 use Rattle.fx_report.specs.Print.{quote, value_text}
@@ -64,19 +64,8 @@ AreEntryNames [] = Unit {0}
 AreEntryNames (name ∷ rest) = IsEntryName name × AreEntryNames rest
 
 abbrev pub IsHeldRefusal : Refusal → Type 0
-IsHeldRefusal NoStep = Unit {0}
-IsHeldRefusal NoElement = Unit {0}
-IsHeldRefusal NoPlace = Unit {0}
-IsHeldRefusal Lacks = Unit {0}
-IsHeldRefusal WrongForm = Unit {0}
 IsHeldRefusal (Blocked path) = AreEntryNames path
-IsHeldRefusal TooDeep = Unit {0}
-IsHeldRefusal BadName = Unit {0}
-IsHeldRefusal NoDefault = Unit {0}
-IsHeldRefusal (Expr fault) = Unit {0}
-IsHeldRefusal Absent = Unit {0}
-IsHeldRefusal Exists = Unit {0}
-IsHeldRefusal TooUnfolded = Unit {0}
+IsHeldRefusal other = Unit {0}
 
 abbrev pub IsHeldEnd : End → Type 0
 IsHeldEnd Done = Unit {0}

@@ -51,15 +51,20 @@ end_text (Stopped command refusal) =
     field (codes "stopped ") command ++ field (codes " ") (refusal_number refusal) ++ codes " " ++ refusal_text refusal
 end_text Aborted = codes "aborted"
 
--- the line of an entry, which is numbered
-unfoldable pub entry_line : ℕ → ℕ → ℕ → End → List ℕ
-entry_line i shell txn end =
-    line
-    (field (codes "entry ") i ++ field (codes " shell ") shell ++ field (codes " txn ") txn ++ codes " " ++ end_text end)
+-- the line of an entry, which is numbered, without its line feed
+abbrev pub entry_words : ℕ → ℕ → ℕ → End → List ℕ
+entry_words i shell txn end =
+    field (codes "entry ") i ++ field (codes " shell ") shell ++ field (codes " txn ") txn ++ codes " " ++ end_text end
 
--- the line of one output
+unfoldable pub entry_line : ℕ → ℕ → ℕ → End → List ℕ
+entry_line i shell txn end = line (entry_words i shell txn end)
+
+-- the line of one output, without its line feed
+abbrev pub print_words : Tree → List ℕ
+print_words value = codes "print " ++ value_text value
+
 unfoldable pub print_line : Tree → List ℕ
-print_line value = line (codes "print " ++ value_text value)
+print_line value = line (print_words value)
 
 -- the lines of an entry: its own, then one for each output in order
 unfoldable pub entry_text : ℕ → PrintedEntry → List ℕ
@@ -70,11 +75,14 @@ abbrev pub entries_text : ℕ → List PrintedEntry → List ℕ
 entries_text i [] = []
 entries_text i (e ∷ rest) = entry_text i e ++ entries_text (i + 1) rest
 
--- the line of a retry: whose it was, the entry that stood in its way, and the path that this entry changed
+-- the line of a retry, without its line feed: whose it was, the entry that stood in its way, and the path that this entry
+-- changed
+abbrev pub retry_words : Retry → List ℕ
+retry_words r =
+    field (codes "retry shell ") r.shell ++ field (codes " txn ") r.txn ++ field (codes " entry ") r.entry ++ codes " path " ++ quote (path_text r.path)
+
 unfoldable pub retry_line : Retry → List ℕ
-retry_line r =
-    line
-    (field (codes "retry shell ") r.shell ++ field (codes " txn ") r.txn ++ field (codes " entry ") r.entry ++ codes " path " ++ quote (path_text r.path))
+retry_line r = line (retry_words r)
 
 -- the report of a run: its entries in their order, numbered from 0, then its retries
 unfoldable pub report_text : List PrintedEntry → List Retry → List ℕ

@@ -8,8 +8,10 @@ mod values;
 mod views;
 
 pub use fx_board::{Retries, Retry};
-pub use lines::{add_end, add_field, event_lines, printed_report, report, value_line};
+pub use lines::{
+    add_entry_words, add_field, add_print_words, add_retry_words, event_lines, printed_report,
+    report, value_line,
+};
 pub use printed::{PrintedEntries, PrintedEntry, View, Viewed, let_go};
-pub use quotes::{add_bytes, add_quoted_path};
-pub use values::add_value;
+pub use quotes::add_bytes;
 pub use views::views_text;

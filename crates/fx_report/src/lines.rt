@@ -90,6 +90,25 @@ pub fn add_end(out: &mut Vec<u8>, end: &End) -> Result<(), NoMemory>
     }
 }
 
+/// Adds the line of an entry, without its line feed.
+pub fn add_entry_words(
+    out: &mut Vec<u8>,
+    number: u64,
+    shell: u32,
+    txn: u32,
+    end: &End,
+) -> Result<(), NoMemory>
+    ensures { OnOk result
+        (out.new.items ≡ out.old.items ++ report.entry_words number shell txn end.now) }
+{
+    add_field(out, b"entry ", number)?;
+    add_field(out, b" shell ", u64::from(shell))?;
+    add_field(out, b" txn ", u64::from(txn))?;
+    add_bytes(out, b" ")?;
+    add_end(out, end)
+}
+
+#[tactic(auto, unfolding(crate::specs::Report::entry_line))]
 fn add_entry_line(
     out: &mut Vec<u8>,
     number: u64,
@@ -100,32 +119,33 @@ fn add_entry_line(
     ensures { OnOk result
         (out.new.items ≡ out.old.items ++ report.entry_line number shell txn end.now) }
 {
-    add_field(out, b"entry ", number)?;
-    add_field(out, b" shell ", u64::from(shell))?;
-    add_field(out, b" txn ", u64::from(txn))?;
-    add_bytes(out, b" ")?;
-    add_end(out, end)?;
-    add_bytes(out, b"\n")?;
-    Ok(())
+    add_entry_words(out, number, shell, txn, end)?;
+    add_bytes(out, b"\n")
 }
 
+/// Adds the line of an output, without its line feed.
+pub fn add_print_words(out: &mut Vec<u8>, value: &Value) -> Result<(), NoMemory>
+    ensures { OnOk result
+        (out.new.items ≡ out.old.items ++ report.print_words (tree_of value.now)) }
+{
+    add_bytes(out, b"print ")?;
+    add_value(out, value)
+}
+
+#[tactic(auto, unfolding(crate::specs::Report::print_line))]
 fn add_print_line(out: &mut Vec<u8>, value: &Value) -> Result<(), NoMemory>
     ensures { OnOk result (out.new.items ≡ out.old.items ++ report.print_line (tree_of value.now)) }
 {
-    add_bytes(out, b"print ")?;
-    add_value(out, value)?;
-    add_bytes(out, b"\n")?;
-    Ok(())
+    add_print_words(out, value)?;
+    add_bytes(out, b"\n")
 }
 
 pub(crate) fn add_print_lines(out: &mut Vec<u8>, outputs: &Values) -> Result<(), NoMemory>
     ensures { OnOk result
         (out.new.items ≡ out.old.items ++ flat_map report.print_line outputs.now) }
 {
-    for i in 0..outputs.len() {
-        if let Some(value) = outputs.at(i) {
-            add_print_line(out, value)?;
-        }
+    for value in outputs.iter() {
+        add_print_line(out, value)?;
     }
     Ok(())
 }
@@ -159,6 +179,7 @@ fn add_log(out: &mut Vec<u8>, board: &Board) -> Result<(), NoMemory>
     Ok(())
 }
 
+#[tactic(auto, using(std::proofs::lemmas::List::drop_more, std::proofs::lemmas::List::drop_all))]
 fn add_entries(out: &mut Vec<u8>, entries: &PrintedEntries) -> Result<(), NoMemory>
     ensures { OnOk result (out.new.items ≡ out.old.items ++ report.entries_text 0 entries.now) }
 {
@@ -168,16 +189,23 @@ fn add_entries(out: &mut Vec<u8>, entries: &PrintedEntries) -> Result<(), NoMemo
     Ok(())
 }
 
-fn add_retry(out: &mut Vec<u8>, retry: &Retry) -> Result<(), NoMemory>
-    ensures { OnOk result (out.new.items ≡ out.old.items ++ report.retry_line retry.now) }
+/// Adds the line of a retry, without its line feed.
+pub fn add_retry_words(out: &mut Vec<u8>, retry: &Retry) -> Result<(), NoMemory>
+    ensures { OnOk result (out.new.items ≡ out.old.items ++ report.retry_words retry.now) }
 {
     add_field(out, b"retry shell ", u64::from(retry.shell))?;
     add_field(out, b" txn ", u64::from(retry.txn))?;
     add_field(out, b" entry ", retry.entry)?;
     add_bytes(out, b" path ")?;
-    add_quoted_path(out, &retry.path)?;
-    add_bytes(out, b"\n")?;
-    Ok(())
+    add_quoted_path(out, &retry.path)
+}
+
+#[tactic(auto, unfolding(crate::specs::Report::retry_line))]
+fn add_retry(out: &mut Vec<u8>, retry: &Retry) -> Result<(), NoMemory>
+    ensures { OnOk result (out.new.items ≡ out.old.items ++ report.retry_line retry.now) }
+{
+    add_retry_words(out, retry)?;
+    add_bytes(out, b"\n")
 }
 
 fn add_retries(out: &mut Vec<u8>, retries: &Retries) -> Result<(), NoMemory>
@@ -238,6 +266,7 @@ pub fn report(alloc: Global, board: &Board, retries: &Retries) -> Result<LongTex
     Ok(LongText::from_vec(out))
 }
 
+#[tactic(auto, unfolding(crate::specs::Events::look_line))]
 fn add_look(out: &mut Vec<u8>, shell: u32, path: &Path, position: u64) -> Result<(), NoMemory>
     ensures { OnOk result
         (out.new.items ≡ out.old.items ++ told.look_line shell path.now position) }
@@ -246,19 +275,19 @@ fn add_look(out: &mut Vec<u8>, shell: u32, path: &Path, position: u64) -> Result
     add_bytes(out, b" ")?;
     add_quoted_path(out, path)?;
     add_field(out, b" ", position)?;
-    add_bytes(out, b"\n")?;
-    Ok(())
+    add_bytes(out, b"\n")
 }
 
+#[tactic(auto, unfolding(crate::specs::Events::settled_line))]
 fn add_settling(out: &mut Vec<u8>, shell: u32, entry: u64) -> Result<(), NoMemory>
     ensures { OnOk result (out.new.items ≡ out.old.items ++ told.settled_line shell entry) }
 {
     add_field(out, b"settled ", u64::from(shell))?;
     add_field(out, b" ", entry)?;
-    add_bytes(out, b"\n")?;
-    Ok(())
+    add_bytes(out, b"\n")
 }
 
+#[tactic(auto, unfolding(crate::specs::Events::conflict_line))]
 fn add_conflict(out: &mut Vec<u8>, shell: u32, entry: u64, path: &Path) -> Result<(), NoMemory>
     ensures { OnOk result
         (out.new.items ≡ out.old.items ++ told.conflict_line shell entry path.now) }
@@ -267,8 +296,7 @@ fn add_conflict(out: &mut Vec<u8>, shell: u32, entry: u64, path: &Path) -> Resul
     add_field(out, b" ", entry)?;
     add_bytes(out, b" ")?;
     add_quoted_path(out, path)?;
-    add_bytes(out, b"\n")?;
-    Ok(())
+    add_bytes(out, b"\n")
 }
 
 fn add_event(out: &mut Vec<u8>, event: &Event) -> Result<(), NoMemory>

@@ -119,15 +119,14 @@ fn add_spelled_name(out: &mut Vec<u8>, name: &Name) -> Result<(), NoMemory>
 }
 
 /// Adds each name of a path with `/` before it, as it is spelled between quotation marks.
+#[tactic(auto, using(crate::proofs::Spelling::spelled_append))]
 fn add_spelled_names(out: &mut Vec<u8>, path: &Path) -> Result<(), NoMemory>
     ensures { OnOk result
         (out.new.items ≡ out.old.items
         ++ flat_map spelled (flat_map (λ name. 47 ∷ name) path.now)) }
 {
-    for i in 0..path.len() {
-        if let Some(name) = path.name(i) {
-            add_spelled_name(out, name)?;
-        }
+    for name in path.iter() {
+        add_spelled_name(out, name)?;
     }
     Ok(())
 }

@@ -10,6 +10,7 @@ use fx_spec::End;
 use fx_store::LongText;
 use std::alloc::Global;
 
+#[tactic(auto, unfolding(crate::specs::Views::view_line))]
 fn add_view_line(out: &mut Vec<u8>, number: u64, position: u64, end: &End) -> Result<(), NoMemory>
     ensures { OnOk result
         (out.new.items ≡ out.old.items ++ text.view_line number position end.now) }
@@ -18,8 +19,7 @@ fn add_view_line(out: &mut Vec<u8>, number: u64, position: u64, end: &End) -> Re
     add_field(out, b" at ", position)?;
     add_bytes(out, b" ")?;
     add_end(out, end)?;
-    add_bytes(out, b"\n")?;
-    Ok(())
+    add_bytes(out, b"\n")
 }
 
 #[tactic(auto, unfolding(crate::specs::Views::view_text))]
@@ -30,6 +30,7 @@ fn add_view(out: &mut Vec<u8>, number: u64, view: &View) -> Result<(), NoMemory>
     add_print_lines(out, &view.outputs)
 }
 
+#[tactic(auto, using(std::proofs::lemmas::List::drop_more, std::proofs::lemmas::List::drop_all))]
 fn add_views(out: &mut Vec<u8>, views: &Viewed) -> Result<(), NoMemory>
     ensures { OnOk result (out.new.items ≡ out.old.items ++ text.view_texts 0 views.now) }
 {

@@ -1,7 +1,8 @@
 use Rattle.std.proofs.Common.{◌<◌, length, sym, ◌∙◌, arith, append_assoc, refl}
 use Rattle.fx_report.specs.Print.{comma, row_text}
 use Rattle.fx_report.proofs.Rows.{all_rows, row_at, table_text}
-use Rattle.fx_report.proofs.Steps.{join_by_next, next_is_there}
+use Rattle.fx_base.proofs.Lists.{not_past}
+use Rattle.fx_report.proofs.Steps.{join_by_next}
 use Rattle.fx_report.proofs.values.+value.Goals as goal
 use Rattle.fx_report.proofs.values.+value.Goals.{add_rows-in-Some+in_ok-add_row, add_rows-in_default}
 
@@ -14,7 +15,7 @@ add_rows-loop-i-preserved t c =
           rw (w.out-is, next, w.in_ok-add_row.ensures, c.loop-i.invariant) (simp append_assoc)
       | add_rows-in_default w ↦
           let inside : c.loop-i.i < length c.args.keys.now = omega (arith, c.requires) in
-          absurd (next_is_there _ _ inside (sym w.in_default.ensures))
+          absurd (not_past _ _ inside (sym w.in_default.ensures))
     ]
 
 pub add_rows-returns : goal.add_rows-returns
