@@ -14,10 +14,9 @@ use Rattle.fx_parse.specs.declared.fault.ParseFault.{ParseFault}
 use Rattle.fx_parse.specs.declared.fault.ParseFault.TheVariants as parse
 use Rattle.fx_spec.specs.WellShaped.{written_shape}
 use Rattle.fx_spec.specs.Written.{TextTree}
-use Rattle.fx_source.specs.declared.fault.SourceFault.{SourceFault}
 use Rattle.fx_command.specs.declared.status.TextFault.{TextFault}
 use Rattle.fx_command.specs.declared.status.TextFault.TheVariants as fault
-use Rattle.fx_source.specs.Described.{Describes, HasDescriptionCause, HasDescriptionFault, IsRefusedFor, IsUndescribed}
+use Rattle.fx_source.specs.Described.{HasDescriptionCause, IsRefusedFor, IsUndescribed}
 use Rattle.fx_source.specs.Faults.{of_parse, of_check}
 
 -- no fault but want of memory comes where the text stands for a description
