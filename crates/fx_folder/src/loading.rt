@@ -170,13 +170,9 @@ pub(crate) fn path_below(
 ) -> Result<HostText, AllocError>
     ensures { IfOk result (λ path. path ≡ path_below folder.now name.now) }
 {
-    let folder = folder.as_str();
-    let name = name.as_str();
-    let room = folder.len().saturating_add(name.len()).saturating_add(1);
-    let mut path = String::with_capacity(alloc, room)?;
-    path.push_str(folder)?;
+    let mut path = String::from_str(alloc, folder.as_str())?;
     path.push_str("/")?;
-    path.push_str(name)?;
+    path.push_str(name.as_str())?;
     Ok(HostText::from_string(path))
 }
 
