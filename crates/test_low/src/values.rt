@@ -45,8 +45,8 @@ fn copied_shape(alloc: Global) -> Result<bool, NoMemory> {
 
 fn copied_expression(alloc: Global) -> Result<i64, NoMemory> {
     let expr = Box::new(alloc, Expr::Int(9))?;
-    match expr.copy(alloc)? {
-        Expr::Int(n) => Ok(n),
+    match &expr.copy(alloc)? {
+        Expr::Int(n) => Ok(*n),
         _ => Err(NoMemory),
     }
 }
