@@ -1,7 +1,7 @@
 -- Items of a folder: which entry is its table, and where an item stands.
 use Rattle.std.proofs.Common.{◌≡◌, ℕ, zero, suc, ◌+◌, ◌<◌, ◌≤◌, Bool, true, false, cond, List, [], ◌∷◌, ◌++◌, length, drop, None, Some, refl, sym, ◌∙◌, ap, arith, append_assoc, append-nil}
 use Rattle.std.specs.Prelude.{bytes_eq}
-use Rattle.std.specs.List.{slice_get, flat_map}
+use Rattle.std.specs.List.{slice_get}
 use Rattle.std.proofs.lemmas.Bool.{false≢true}
 use Rattle.std.proofs.lemmas.Option.{same_Some}
 use Rattle.std.proofs.lemmas.List.Elements.{All-head}
@@ -72,14 +72,10 @@ no_item p es i j n k old todo next is so table =
 
 -- ---- the text of an item
 
--- names, each with `/` behind it
-abbrev pub names_then : Parts → List ℕ
-names_then names = flat_map (λ name. name ++ 47 ∷ []) names
+place_pushed : (p : Parts) (n : List ℕ) → place_of (p ++ n ∷ []) ≡ place_of p ++ 47 ∷ n
+place_pushed [] n = ap (λ l. 47 ∷ l) (append-nil n)
+place_pushed (m ∷ p) n = ap (λ l. 47 ∷ m ++ l) (place_pushed p n) ∙ ap (λ l. 47 ∷ l) (sym (append_assoc m (place_of p) (47 ∷ n)))
 
--- with `/` before or behind each name
-pub slashes_around : (p : Parts) → 47 ∷ names_then p ≡ place_of p ++ 47 ∷ []
-slashes_around [] = refl
-slashes_around (n ∷ p) =
-    ap (λ l. 47 ∷ l) (append_assoc n (47 ∷ []) (names_then p)
-    ∙ ap (λ l. n ++ l) (slashes_around p)
-    ∙ sym (append_assoc n (place_of p) (47 ∷ [])))
+-- the name of an entry behind the text of its folder
+pub place_behind : (p : Parts) (front n : List ℕ) → 47 ∷ front ≡ place_of p ++ 47 ∷ [] → 47 ∷ front ++ n ≡ place_of (p ++ n ∷ [])
+place_behind p front n is = ap (λ l. l ++ n) is ∙ append_assoc (place_of p) (47 ∷ []) n ∙ sym (place_pushed p n)

@@ -17,7 +17,7 @@ use Rattle.fx_outside.specs.Host.{LetsIn}
 use Rattle.fx_outside.specs.Path.{Parts, parts, is_fit, parts_cmp, is_fit_part, has_no_slash, above}
 use Rattle.fx_outside.specs.Tree.{Tree, Entry, IsWhole, Lists, entry_at, is_folder_at, is_file_at, bytes_at, is_folder_kind, is_file_kind, has_folder}
 use Rattle.fx_outside.proofs.Trees.{parts_total, parts_same}
-use Rattle.fx_store.specs.declared.node.Node.TheVariants.{File, Dir}
+use Rattle.fx_store.specs.declared.node.Node.TheVariants.{Dir}
 use Rattle.fx_store.specs.declared.changes.Change.{Change}
 use Rattle.fx_store.specs.Names.{IsName, IsPath, is_name}
 use Rattle.fx_folder.specs.declared.walking.Item.{Item}

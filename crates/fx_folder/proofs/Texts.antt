@@ -7,7 +7,7 @@ use Rattle.std.proofs.lemmas.Bool.{cases_Bool, and_from}
 use Rattle.std.proofs.lemmas.Bool.Decides.{nat_tests}
 use Rattle.std.proofs.lemmas.List.Folds.{list_all-append}
 use Rattle.std.proofs.lemmas.List.Splits.{length-slice_split}
-use Rattle.std.proofs.lemmas.Str.{IsUtf8-from_is_utf8}
+use Rattle.std.proofs.lemmas.Str.{IsUtf8-append, IsUtf8-from_is_utf8}
 use Rattle.fx_store.specs.Names.{IsName, is_name, is_slash, is_nul, is_reserved}
 use Rattle.fx_outside.specs.Host.{LetsIn}
 use Rattle.fx_outside.specs.Path.{Parts, parts, is_fit, is_fit_part}
@@ -43,6 +43,10 @@ name_parts name is =
 
 pub name_is_text : (name : List ℕ) → IsName name → IsUtf8 name
 name_is_text name is = IsUtf8-from_is_utf8 name (name_parts name is).text
+
+pub utf8_then : (text name : List ℕ) → IsUtf8 text → IsUtf8 name → IsUtf8 (text ++ 47 ∷ name)
+unfolding lib.Utf8.encode
+utf8_then text name t n = IsUtf8-append text (47 ∷ name) t (IsUtf8-append (47 ∷ []) name (47 ∷ [], (refl, refl)) n)
 
 -- a text without a slash is one part
 

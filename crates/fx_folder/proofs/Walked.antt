@@ -2,7 +2,7 @@
 use Rattle.std.proofs.Common.{◌≡◌, ℕ, Bool, true, false, cond, not, T, List, [], ◌∷◌, ◌++◌, None, refl, sym, ◌∙◌, ap, subst}
 use Rattle.std.specs.Prelude.{bytes_eq}
 use Rattle.std.specs.Ordering.{is_lt}
-use Rattle.std.specs.FinMap.{get, entries, find, is_sorted, entries_sorted}
+use Rattle.std.specs.FinMap.{get, entries, find, is_sorted}
 use Rattle.std.specs.FinMap.Entries.{below_all, where_key, is_sorted-where_key, find-where_key}
 use Rattle.fx_outside.specs.Path.{Parts, parts_cmp}
 use Rattle.fx_outside.specs.Tree.{Tree}

@@ -14,7 +14,7 @@ use Rattle.fx_table.specs.declared.fault.LoadFault.{LoadFault}
 use Rattle.fx_table.specs.declared.fault.LoadFault.TheVariants.{Refused, ReadFault, NoMemory}
 use Rattle.fx_folder.specs.Limits.{most_bytes}
 use Rattle.fx_folder.specs.Deep.{Held, all_below, walked, all_bytes, first_refused, refused_entry}
-use Rattle.fx_folder.specs.Walks.{item_path, items_of, in_table, held_of, below_names, ahead, IsThere, found_as, root_found, IsOnWay, IsEntered, AnswersEntry, AnswersWalk, WalkCause, size_of}
+use Rattle.fx_folder.specs.Walks.{item_path, items_of, in_table, held_of, below_names, ahead, IsThere, found_as, root_found, IsOnWay, IsEntered, AnswersEntry, WalkCause, size_of}
 use Rattle.fx_folder.proofs.Branches.{ahead_push, items_ahead, items_there, there_front, there_last, table_is}
 
 behind_none : (xs : List Held) → map (below_names []) xs ≡ xs
@@ -78,12 +78,6 @@ cause_told None at found left nodes todo x fault n way answer = tt
 cause_told (Some t) at found left nodes todo x (Refused cause) n way answer = way_refused t at found left todo x cause way (subst (λ k. refused_entry k left (held_of t at x) ≡ Some cause) n answer)
 cause_told (Some t) at found left nodes todo x ReadFault n way answer = tt
 cause_told (Some t) at found left nodes todo x NoMemory n way answer = tt
-
-pub fault_told : (told : Option Tree) (at : Parts) (fault : LoadFault) → IfSome told (λ t. WalkCause t at fault) → IfSome told (λ t. AnswersWalk t at (Err fault))
-fault_told None at fault cause = tt
-fault_told (Some t) at (Refused why) cause = cause
-fault_told (Some t) at ReadFault cause = tt
-fault_told (Some t) at NoMemory cause = tt
 
 pub root_pushed : (items : List Change) (p : Parts) (names : List (List ℕ)) → items ≡ [] → p ≡ [] → names ≡ [] → items ++ record { path = p; node = Some (Dir names) } ∷ [] ≡ root_found ∷ []
 root_pushed items p names a b c =

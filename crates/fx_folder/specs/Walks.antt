@@ -110,19 +110,17 @@ pub record IsEntered (tree : Tree) (at : Parts) (names : Parts) (todo todo' : Li
 abbrev pub AddsItems : Option Tree → List ℕ → Parts → List Item → List Item → Type 0
 AddsItems told path names todo todo' = (listing : Names) × (todo' ≡ todo ++ items_of names (entries listing)) × IfSome told (λ tree. Lists tree (parts path) listing)
 
--- everything that a walk found, with the bytes that may still be loaded; or the first refusal
-abbrev pub AnswersWalk : Tree → Parts → Result Walked LoadFault → Type 0
-AnswersWalk tree at (Ok walk) = (first_refused 1 most_bytes (walked (all_below tree at)) ≡ None)
-    × (walk.found.items ≡ root_found ∷ map found_as (walked (all_below tree at))) × (walk.left ≡ most_bytes - all_bytes (walked (all_below tree at)))
-AnswersWalk tree at (Err (Refused cause)) = first_refused 1 most_bytes (walked (all_below tree at)) ≡ Some cause
-AnswersWalk tree at (Err ReadFault) = ⊤
-AnswersWalk tree at (Err NoMemory) = ⊤
-
 -- a walk is refused for the first cause
 abbrev pub WalkCause : Tree → Parts → LoadFault → Type 0
 WalkCause tree at (Refused cause) = first_refused 1 most_bytes (walked (all_below tree at)) ≡ Some cause
 WalkCause tree at ReadFault = ⊤
 WalkCause tree at NoMemory = ⊤
+
+-- everything that a walk found, with the bytes that may still be loaded; or the first refusal
+abbrev pub AnswersWalk : Tree → Parts → Result Walked LoadFault → Type 0
+AnswersWalk tree at (Ok walk) = (first_refused 1 most_bytes (walked (all_below tree at)) ≡ None)
+    × (walk.found.items ≡ root_found ∷ map found_as (walked (all_below tree at))) × (walk.left ≡ most_bytes - all_bytes (walked (all_below tree at)))
+AnswersWalk tree at (Err fault) = WalkCause tree at fault
 
 abbrev pub IsNoRefusal : LoadFault → Type 0
 IsNoRefusal (Refused cause) = ⊥

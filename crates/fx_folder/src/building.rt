@@ -28,9 +28,5 @@ fn made_of(alloc: Global, found: Vec<Change>) -> Result<Filestore, NoMemory>
     requires whole { IsWhole (over (get root_only) found.items) }
     ensures { IfOk result (λ s. s.nodes ≡ over_nodes root_only found.items) }
 {
-    let changes = Changes::from_vec(found);
-    let mut store = Filestore::new(alloc)?;
-    store.reserve(alloc, &changes)?;
-    store.apply(changes);
-    Ok(store)
+    Filestore::from_changes(alloc, Changes::from_vec(found))
 }

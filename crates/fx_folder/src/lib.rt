@@ -6,6 +6,7 @@ mod fault;
 mod joining;
 pub mod laws;
 mod loading;
+mod parent;
 mod readying;
 mod saving;
 mod walking;

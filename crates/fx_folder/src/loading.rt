@@ -170,9 +170,13 @@ pub(crate) fn path_below(
 ) -> Result<HostText, AllocError>
     ensures { IfOk result (λ path. path ≡ path_below folder.now name.now) }
 {
-    let mut path = String::from_str(alloc, folder.as_str())?;
+    let folder = folder.as_str();
+    let name = name.as_str();
+    let room = folder.len().saturating_add(name.len()).saturating_add(1);
+    let mut path = String::with_capacity(alloc, room)?;
+    path.push_str(folder)?;
     path.push_str("/")?;
-    path.push_str(name.as_str())?;
+    path.push_str(name)?;
     Ok(HostText::from_string(path))
 }
 

@@ -1,6 +1,7 @@
 //! Filestores as folders.
-ghost use Rattle.std.specs.Prelude.{◌≡◌, ◌≤◌, ◌++◌, ◌∷◌, [], true, Some, Ok, Err, IfOk, IfErr, OnOk, OnErr, IfSome, IsSome, string_bytes};
+ghost use Rattle.std.specs.Prelude.{◌≡◌, ◌≤◌, ◌++◌, ◌∷◌, [], true, Some, Ok, Err, IfOk, IfErr, OnOk, OnErr, IfSome, IsSome};
 ghost use Rattle.std.specs.FinMap.{get, entries};
+ghost use Rattle.std.specs.Str.{IsUtf8};
 ghost use Rattle.fx_store.specs.Whole.{IsWhole};
 ghost use Rattle.fx_store.specs.Names.{IsPath, IsName};
 ghost use Rattle.fx_outside.specs.Path.{parts};
@@ -22,6 +23,9 @@ use fx_outside::{Host, HostFault, HostText};
 use fx_store::{Filestore, LongText, Name, Node, Path};
 use fx_table::{Descent, Entry, TableText};
 use std::alloc::Global;
+
+/// How much room a path's text is given for each name before it is written.
+const NAME_ROOM: usize = 16;
 
 /// Writes a filestore as a folder: the folder itself, unless an empty one is there, then directories and files in the order
 /// of paths, and last the table, if there is a link or an executable file. A refusal may leave a part of it, in which the file last begun
@@ -242,22 +246,25 @@ fn place_below(alloc: Global, folder: &HostText, path: &Path) -> Result<HostText
     ensures place { IfOk result (λ place. place ≡ folder.now ++ place_of path.now) }
     ensures path { OnOk result (IsPath path.now) }
 {
-    let mut text = String::from_str(alloc, folder.as_str())?;
+    let folder = folder.as_str().as_bytes();
+    let room = (path.len() as usize).saturating_mul(NAME_ROOM);
+    let mut bytes = Vec::with_capacity(alloc, folder.len().saturating_add(room))?;
+    bytes.extend_from_slice(folder)?;
     for name in path.iter() {
-        add_name(&mut text, name)?;
+        add_name(&mut bytes, name)?;
     }
-    Ok(HostText::from_string(text))
+    match String::from_utf8(bytes) {
+        Ok(text) => Ok(HostText::from_string(text)),
+        Err(_) => unreachable!(),
+    }
 }
 
 /// Adds `/` and a name.
-fn add_name(text: &mut String, name: &Name) -> Result<(), NoMemory>
-    ensures { OnOk result (string_bytes text.new ≡ string_bytes text.old ++ 47 ∷ name.now) }
+fn add_name(bytes: &mut Vec<u8>, name: &Name) -> Result<(), NoMemory>
+    ensures added { OnOk result (bytes.new.items ≡ bytes.old.items ++ 47 ∷ name.now) }
+    ensures text { OnOk result (IsUtf8 name.now) }
 {
-    let name = match str::from_utf8(name.as_slice()) {
-        Ok(name) => name,
-        Err(_) => unreachable!(),
-    };
-    text.push('/')?;
-    text.push_str(name)?;
+    bytes.push(b'/')?;
+    bytes.extend_from_slice(name.as_slice())?;
     Ok(())
 }

@@ -1,5 +1,5 @@
 //! The walk through a folder: its entries in order of path, each folder's before its next sibling.
-ghost use Rattle.std.specs.Prelude.{◌≡◌, ◌<◌, ◌≤◌, ◌+◌, ◌++◌, ◌∷◌, [], length, true, Ok, Err, IfOk, IfErr, OnOk, IfSome, string_bytes};
+ghost use Rattle.std.specs.Prelude.{◌≡◌, ◌<◌, ◌≤◌, ◌+◌, ◌++◌, ◌∷◌, [], length, true, Ok, Err, IfOk, IfErr, OnOk, IfSome};
 ghost use Rattle.std.specs.FinMap.{entries};
 ghost use Rattle.fx_outside.specs.Path.{parts};
 ghost use Rattle.fx_outside.specs.Tree.{Lists, is_folder_at, is_file_at, bytes_at};
@@ -12,17 +12,18 @@ ghost use Rattle.fx_folder.specs.Walks.{item_path, items_of, in_table, held_of, 
 ghost use Rattle.fx_folder.specs.Reads.{path_below};
 
 use crate::loading::{MAX_BYTES, MAX_NODES, TABLE, below_folder, path_below, read_file};
+use crate::parent::Parent;
 use fx_base::NoMemory;
 use fx_outside::{Host, HostKind, HostText, Listing};
 use fx_store::limits::MAX_FILE_BYTES;
 use fx_store::{Change, Name, Names, Node, Path, PathFault};
 use fx_table::{FolderCause, LoadFault};
-use std::alloc::{AllocError, Global};
+use std::alloc::Global;
 
-/// An entry that is still to be walked: the path of its folder, its name and its kind.
+/// An entry that is still to be walked: its folder, its name and its kind.
 #[derive(Debug, Drop)]
 pub struct Item {
-    pub parent: Path,
+    pub parent: Parent,
     pub name: HostText,
     pub kind: HostKind,
 }
@@ -54,12 +55,13 @@ pub(crate) fn walk<H: Host>(
     ensures same { ReadsOnly (H.view host.old) (H.view host.new) }
     ensures fit { AsksIn folder.now (H.view host.old) (H.view host.new) }
 {
-    let root = Path::root(alloc);
+    let top = Parent::root(alloc)?;
     let mut todo = Vec::new(alloc);
-    add_items(alloc, &root, names, &mut todo)?;
+    add_items(alloc, &top, names, &mut todo)?;
     let mut found = Vec::new(alloc);
+    let path = Path::root(alloc);
     let node = Some(Node::Dir(Names::new(alloc)));
-    found.push(Change { path: root, node })?;
+    found.push(Change { path, node })?;
     let left = walk_items(alloc, host, folder, &mut found, &mut todo, buf)?;
     Ok(Walked { found, left })
 }
@@ -157,7 +159,7 @@ fn enter<H: Host>(
     ensures same { ReadsOnly (H.view host.old) (H.view host.new) }
     ensures fit { AsksIn folder.now (H.view host.old) (H.view host.new) }
 {
-    let text = text_of(alloc, item)?;
+    let text = item.parent.text_of(alloc, &item.name)?;
     let path = entry_path(alloc, item, &text, nodes)?;
     match item.kind {
         HostKind::File => enter_file(alloc, host, folder, &text, path, left, buf),
@@ -208,6 +210,7 @@ fn enter_folder<H: Host>(
     path: Path,
     todo: &mut Vec<Item>,
 ) -> Result<Change, LoadFault>
+    requires text { 47 ∷ text.now ≡ place_of path }
     requires folder { IfSome (H.view host.old).told (λ tree.
         is_folder_at tree (path_below folder.now text.now) ≡ true) }
     ensures change { IfOk result
@@ -223,7 +226,8 @@ fn enter_folder<H: Host>(
 {
     let place = path_below(alloc, folder, text)?;
     let names = host.list(alloc, &place)?;
-    add_items(alloc, &path, &names, todo)?;
+    let parent = Parent::new(alloc, &path, text)?;
+    add_items(alloc, &parent, &names, todo)?;
     Ok(Change {
         path,
         node: Some(Node::Dir(Names::new(alloc))),
@@ -233,7 +237,7 @@ fn enter_folder<H: Host>(
 /// The entries of a folder become items, all but the table, with the first name at the end.
 fn add_items(
     alloc: Global,
-    parent: &Path,
+    parent: &Parent,
     names: &Listing,
     todo: &mut Vec<Item>,
 ) -> Result<(), NoMemory>
@@ -252,7 +256,7 @@ fn add_items(
 }
 
 /// Whether an entry is the table of the folder.
-fn is_table(parent: &Path, name: &HostText) -> bool
+fn is_table(parent: &Parent, name: &HostText) -> bool
     ensures { result ≡ in_table (parent.now ++ name.now ∷ []) }
 {
     if parent.len() > 0 {
@@ -261,11 +265,16 @@ fn is_table(parent: &Path, name: &HostText) -> bool
     name.as_str() == TABLE
 }
 
-fn new_item(alloc: Global, parent: &Path, name: &HostText, kind: HostKind) -> Result<Item, NoMemory>
+fn new_item(
+    alloc: Global,
+    parent: &Parent,
+    name: &HostText,
+    kind: HostKind,
+) -> Result<Item, NoMemory>
     ensures { IfOk result (λ i. i ≡ record { parent = parent.now; name = name.now; kind = kind }) }
 {
     Ok(Item {
-        parent: parent.copy(alloc)?,
+        parent: parent.copy()?,
         name: name.copy(alloc)?,
         kind,
     })
@@ -300,31 +309,6 @@ fn entry_path(alloc: Global, item: &Item, text: &HostText, nodes: u64) -> Result
         )?))),
         Err(PathFault::BadName) => unreachable!(),
     }
-}
-
-/// Where an item stands below the folder, with `/` between each two names.
-fn text_of(alloc: Global, item: &Item) -> Result<HostText, AllocError>
-    ensures { IfOk result (λ text. 47 ∷ text ≡ place_of (item_path item.now)) }
-{
-    let mut text = String::new(alloc);
-    for name in item.parent.iter() {
-        push_name(&mut text, name)?;
-    }
-    text.push_str(item.name.as_str())?;
-    Ok(HostText::from_string(text))
-}
-
-/// Adds a name and a `/`.
-fn push_name(text: &mut String, name: &Name) -> Result<(), AllocError>
-    ensures { OnOk result (string_bytes text.new ≡ string_bytes text.old ++ name.now ++ 47 ∷ []) }
-{
-    let name = match str::from_utf8(name.as_slice()) {
-        Ok(name) => name,
-        Err(_) => unreachable!(),
-    };
-    text.push_str(name)?;
-    text.push('/')?;
-    Ok(())
 }
 
 /// How many bytes a change puts into a file.

@@ -16,8 +16,8 @@ returns-in-File-clause-entered g c = on_ok c.enter_file.result _ (entered_file (
 pub returns-in-File-clause-fit : goal.returns-in-File-clause-fit
 returns-in-File-clause-fit g c = λ fit. c.enter_file.ensures.fit (lets_text (g.H.Host.view c.args.host.now).guard.may_read c.args.folder.now c.in_ok-text.text c.in_ok-path.path c.in_ok-path.ensures.names (text_is c.in_ok-text.text c.in_ok-path.path _ c.in_ok-text.ensures c.in_ok-path.ensures.path.1) fit)
 
-pub enter_folder-requires : goal.enter_folder-requires
-enter_folder-requires g c = record { folder = folder_there (g.H.Host.view c.args.host.now).told c.args.folder.now c.in_ok-text.text c.in_ok-path.path c.args.item.now c.requires.there (passed_of c.args.folder.now c.in_ok-text.text c.in_ok-path.path c.args.item.now c.in_ok-text.ensures c.in_ok-path.ensures.path.1 c.in_ok-path.ensures.names) c.in-Folder.is }
+pub enter_folder-requires-clause-folder : goal.enter_folder-requires-clause-folder
+enter_folder-requires-clause-folder g c = folder_there (g.H.Host.view c.args.host.now).told c.args.folder.now c.in_ok-text.text c.in_ok-path.path c.args.item.now c.requires.there (passed_of c.args.folder.now c.in_ok-text.text c.in_ok-path.path c.args.item.now c.in_ok-text.ensures c.in_ok-path.ensures.path.1 c.in_ok-path.ensures.names) c.in-Folder.is
 
 pub returns-in-Folder-clause-answer : goal.returns-in-Folder-clause-answer
 returns-in-Folder-clause-answer g c = folder_result (g.H.Host.view c.args.host.now).told (g.met.H.Host.whole c.args.host.now) c.args.folder.now c.in_ok-text.text c.in_ok-path.path c.args.nodes c.args.left c.args.item.now c.enter_folder.result c.requires.there c.in_ok-path.ensures.path.0 (passed_of c.args.folder.now c.in_ok-text.text c.in_ok-path.path c.args.item.now c.in_ok-text.ensures c.in_ok-path.ensures.path.1 c.in_ok-path.ensures.names) c.in-Folder.is c.enter_folder.ensures.change c.enter_folder.ensures.cause
