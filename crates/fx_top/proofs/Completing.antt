@@ -10,6 +10,7 @@ use Rattle.fx_command.specs.declared.status.Status.{Status}
 use Rattle.fx_command.specs.declared.status.Status.TheVariants as status
 use Rattle.fx_command.proofs.Told.{if_some_map, same, some_unit}
 use Rattle.fx_durable.specs.Disk.{DiskView}
+use Rattle.fx_durable.proofs.Choices.{unasked}
 use Rattle.fx_large.specs.GenRows.{gen_making}
 use Rattle.fx_journal_command.proofs.Completing.{journal_completes, journal_no_memory}
 use Rattle.fx_journal_command.proofs.Keeping.{unbegun_keeps}
@@ -56,7 +57,7 @@ unread_row (Gen j) host sink disk = tables.no_memory (making_only (gen_making j.
 unread_row (Large j) host sink disk = tables.no_memory (making_only (large_making j.number j.out)) host host (reads_none host) sink
 unread_row (Audit j) host sink disk = same host host sink (reads_none host)
 unread_row (Journal j) host sink disk = journal_no_memory j host sink disk
-unread_row (Recover j) host sink disk = (refl, λ _. refl, inl refl, recovering.no_memory j disk disk host host (reads_none host) sink)
+unread_row (Recover j) host sink disk = (refl, unasked j.journal disk, inl refl, recovering.no_memory j disk disk host host (reads_none host) sink)
 unread_row (Views j) host sink disk = viewing.no_memory j host host (reads_none host) sink
 
 pub unread_fit : (j : Job) (host : HostView) → AsksInside j host host
