@@ -80,7 +80,7 @@ pub fn check(alloc: Global, description: Description) -> Result<Checked, CheckFa
             let Description { defs, root } = description;
             let defs = settled_defs(alloc, defs)?;
             let root = settled(alloc, root)?;
-            Ok(Checked::of(Description { defs, root }))
+            Ok(Checked::of(alloc, Description { defs, root })?)
         }
         Err(fault) => {
             let_go_text(description);

@@ -13,8 +13,8 @@ use Rattle.fx_base.proofs.Booleans.{second_true, first_true}
 use mir.Syntax.{w64}
 use Rattle.fx_expr.specs.Eval.{fits_64, digits_in, is_numeral, numeral_value, spells_64}
 
-own : IsNumeralModel (λ ds. all_ascii_digits ds ≡ true) (digits_value 10)
-own = numerals_by_value _ tells_all_ascii_digits
+pub own_numerals : IsNumeralModel (λ ds. all_ascii_digits ds ≡ true) (digits_value 10)
+own_numerals = numerals_by_value _ tells_all_ascii_digits
 
 not_true : (b : Bool) → (b ≡ true → ⊥) → b ≡ false
 not_true true f = absurd (f refl)
@@ -29,10 +29,10 @@ fits_back (pos n) e = record { sfits = ltb-true n (2 ^ 63) e }
 fits_back (negsuc n) e = record { sfits = ltb-true n (2 ^ 63) e }
 
 numeral : (bs : List ℕ) → IsNumeral 10 (digits_in bs) → is_numeral bs ≡ true
-numeral bs h = and_from _ _ (lt-ltb 0 (length (digits_in bs)) h.0) (own.from (digits_in bs) h.1)
+numeral bs h = and_from _ _ (lt-ltb 0 (length (digits_in bs)) h.0) (own_numerals.from (digits_in bs) h.1)
 
 numeral_back : (bs : List ℕ) → is_numeral bs ≡ true → IsNumeral 10 (digits_in bs)
-numeral_back bs e = (ltb-true 0 (length (digits_in bs)) (first_true _ _ e), own.to (digits_in bs) (second_true _ _ e))
+numeral_back bs e = (ltb-true 0 (length (digits_in bs)) (first_true _ _ e), own_numerals.to (digits_in bs) (second_true _ _ e))
 
 same_digits : (bs : List ℕ) → slice_index bs 0 ≢ 43 → without_leading_sign bs ≡ digits_in bs
 same_digits bs other = ap (λ l. cond (starts_with_minus bs) (drop 1 bs) l) (without_leading_plus_none bs other)

@@ -13,9 +13,7 @@ use Rattle.fx_expr.specs.declared.fault.ExprFault.TheVariants.{NotNumber, Overfl
 use Rattle.fx_expr.specs.Eval.{Outcome, read_integer, without_line_feed, digits_in, is_numeral, numeral_value, spells_64, fits_64, then_on, two, one, eval_of}
 use Rattle.fx_expr.specs.ExprTree.{ExprTree}
 use Rattle.fx_expr.specs.Tree.{Tree}
-
-own : IsNumeralModel (λ ds. all_ascii_digits ds ≡ true) (digits_value 10)
-own = numerals_by_value _ tells_all_ascii_digits
+use Rattle.fx_expr.proofs.Numerals.{own_numerals}
 
 module _ (n : ℕ) (small : n < 2 ^ 63) where
   abbrev ds : List ℕ
@@ -25,16 +23,16 @@ module _ (n : ℕ) (small : n < 2 ^ 63) where
   below = omega (arith, small)
 
   digits : all_ascii_digits ds ≡ true
-  digits = digits_decimal own n below
+  digits = digits_decimal own_numerals n below
 
   some : 0 < length ds
   some = decimal_nonempty n below
 
   no_line_feed : without_line_feed ds ≡ ds
-  no_line_feed = ap (λ b. cond b (take (length ds - 1) ds) ds) (ne_eqb (slice_index ds (length ds - 1)) 10 (not_in_digits own ds 10 digits (λ r. absurd (omega (arith, r.0, r.1))) (length ds - 1) (omega (arith, some))))
+  no_line_feed = ap (λ b. cond b (take (length ds - 1) ds) ds) (ne_eqb (slice_index ds (length ds - 1)) 10 (not_in_digits own_numerals ds 10 digits (λ r. absurd (omega (arith, r.0, r.1))) (length ds - 1) (omega (arith, some))))
 
   no_minus : starts_with_minus ds ≡ false
-  no_minus = ne_eqb (slice_index ds 0) 45 (not_in_digits own ds 45 digits (λ r. absurd (omega (arith, r.0, r.1))) 0 some)
+  no_minus = ne_eqb (slice_index ds 0) 45 (not_in_digits own_numerals ds 45 digits (λ r. absurd (omega (arith, r.0, r.1))) 0 some)
 
   all_digits : digits_in ds ≡ ds
   all_digits = ap (λ b. cond b (drop 1 ds) ds) no_minus
@@ -46,7 +44,7 @@ module _ (n : ℕ) (small : n < 2 ^ 63) where
   value =
       ap (λ b. cond b (neg_ℤ (pos (digits_value 10 (digits_in ds)))) (pos (digits_value 10 (digits_in ds)))) no_minus
       ∙ ap (λ l. pos (digits_value 10 l)) all_digits
-      ∙ ap pos (digits_value-decimal own n below)
+      ∙ ap pos (digits_value-decimal own_numerals n below)
 
   spells : spells_64 ds ≡ true
   spells = and_from (is_numeral ds) (fits_64 (numeral_value ds)) numeral (ap fits_64 value ∙ lt-ltb n (2 ^ 63) small)

@@ -11,8 +11,9 @@ use Rattle.fx_parse.specs.declared.keyword.Keyword.TheVariants as keyword
 use Rattle.fx_parse.specs.Stuck.{Stuck, Unexpected, TooNested, ◌>>=◌}
 use Rattle.fx_parse.specs.Grammars.{word, opening, closing, comma, binary_token, unary_word, bool_word, expr_tokens, expr_levels, has_names}
 use Rattle.fx_parse.specs.Reader.{expect, is_opening, is_closing, is_comma, Head, Leaf, Bracket, Before, Choice, Nothing, head_of, Middle, Binary, Glob, Neither, middle_of, middle_found, middle_at, glob_at, ReadExpr, second_at, bracket_at, before_at, choice_at, form_at, too_nested, is_nothing, read_expr}
-use Rattle.fx_parse.proofs.Machine.{at_most, scan, scan_from}
-use Rattle.fx_parse.proofs.ExprMachine.{Sym, Expr, Operator, Text, Open, Close, Comma, table, head_stack, middle_stack, passed, head_word, head_unary, head_bool, head_name, middle_binary, middle_only}
+use Rattle.fx_parse.proofs.Machine.{at_most, scan}
+use Rattle.fx_parse.proofs.Tests.{IsTest, scan_test}
+use Rattle.fx_parse.proofs.ExprMachine.{Sym, Expr, Operator, Text, Open, Close, Comma, table, head_stack, middle_stack, head_word, head_unary, head_bool, head_name, middle_binary, middle_only}
 
 -- a chain of readings
 pub same_then : {A B : Type 0} (r : Result A Stuck) (f g : A → Result B Stuck) → ((a : A) → f a ≡ g a) → (r >>= f) ≡ (r >>= g)
@@ -26,21 +27,14 @@ then_then (Err e) f g = refl
 abbrev go : List Sym → List Token → Result (List Token) Stuck
 go stack ts = scan table stack ts
 
-from_passed : (b : Bool) (stack : List Sym) (ts : List Token) (n : ℕ) → scan_from table (passed b) false n (λ more. go (more ++ stack) ts) ≡ (cond b (Ok ts) (Err (Unexpected n)) >>= (λ r. go stack r))
-from_passed true stack ts n = refl
-from_passed false stack ts n = refl
+is_open : IsTest table Open is_opening
+is_open = record { expands = λ x. refl; low = λ x. refl }
 
-scan_open : (stack : List Sym) (ts : List Token) → go (Open ∷ stack) ts ≡ (expect is_opening ts >>= (λ r. go stack r))
-scan_open stack [] = refl
-scan_open stack (x ∷ ts) = from_passed (is_opening x) stack ts (suc (length ts))
+is_close : IsTest table Close is_closing
+is_close = record { expands = λ x. refl; low = λ x. refl }
 
-scan_close : (stack : List Sym) (ts : List Token) → go (Close ∷ stack) ts ≡ (expect is_closing ts >>= (λ r. go stack r))
-scan_close stack [] = refl
-scan_close stack (x ∷ ts) = from_passed (is_closing x) stack ts (suc (length ts))
-
-scan_comma : (stack : List Sym) (ts : List Token) → go (Comma ∷ stack) ts ≡ (expect is_comma ts >>= (λ r. go stack r))
-scan_comma stack [] = refl
-scan_comma stack (x ∷ ts) = from_passed (is_comma x) stack ts (suc (length ts))
+is_between : IsTest table Comma is_comma
+is_between = record { expands = λ x. refl; low = λ x. refl }
 
 scan_text : (stack : List Sym) (ts : List Token) → go (Text ∷ stack) ts ≡ (glob_at ts >>= (λ r. go stack r.1))
 scan_text stack [] = refl
@@ -59,10 +53,10 @@ module _ (d : ℕ) (read : ReadExpr) (follows : Follows d read) where
   unfolding second_at
   scan_second stack a (Binary op) more ts e =
       let parts : Expr d ∷ Close ∷ [] ≡ more = cc in
-      ap (λ k. go (k ++ stack) ts) (sym parts) ∙ follows (Close ∷ stack) ts ∙ same_then (read ts) _ _ (λ b. scan_close stack b.1 ∙ sym (then_then (expect is_closing b.1) (λ rest. Ok (ExprTree.bin op a b.0, rest)) (λ r. go stack r.1))) ∙ sym (then_then (read ts) _ (λ r. go stack r.1))
+      ap (λ k. go (k ++ stack) ts) (sym parts) ∙ follows (Close ∷ stack) ts ∙ same_then (read ts) _ _ (λ b. scan_test table is_close stack b.1 ∙ sym (then_then (expect is_closing b.1) (λ rest. Ok (ExprTree.bin op a b.0, rest)) (λ r. go stack r.1))) ∙ sym (then_then (read ts) _ (λ r. go stack r.1))
   scan_second stack a Glob more ts e =
       let parts : Text ∷ Close ∷ [] ≡ more = cc in
-      ap (λ k. go (k ++ stack) ts) (sym parts) ∙ scan_text (Close ∷ stack) ts ∙ same_then (glob_at ts) _ _ (λ b. scan_close stack b.1 ∙ sym (then_then (expect is_closing b.1) (λ rest. Ok (ExprTree.only a b.0, rest)) (λ r. go stack r.1))) ∙ sym (then_then (glob_at ts) _ (λ r. go stack r.1))
+      ap (λ k. go (k ++ stack) ts) (sym parts) ∙ scan_text (Close ∷ stack) ts ∙ same_then (glob_at ts) _ _ (λ b. scan_test table is_close stack b.1 ∙ sym (then_then (expect is_closing b.1) (λ rest. Ok (ExprTree.only a b.0, rest)) (λ r. go stack r.1))) ∙ sym (then_then (glob_at ts) _ (λ r. go stack r.1))
   scan_second stack a Neither more ts e = absurd cc
 
   scan_middle_of : (stack : List Sym) (a : ExprTree) (x : Token) (ts : List Token) (m : Middle) → scan_from table (middle_stack d m) false (suc (length ts)) (λ more. go (more ++ stack) ts) ≡ (middle_found m x ts >>= (λ op. second_at read a op.0 op.1 >>= (λ r. go stack r.1)))
@@ -82,13 +76,13 @@ module _ (d : ℕ) (read : ReadExpr) (follows : Follows d read) where
   scan_before : (stack : List Sym) (op : UnOp) (ts : List Token) → go (Open ∷ Expr d ∷ Close ∷ stack) ts ≡ (before_at read op ts >>= (λ r. go stack r.1))
   unfolding before_at
   scan_before stack op ts =
-      scan_open (Expr d ∷ Close ∷ stack) ts ∙ same_then (expect is_opening ts) _ _ (λ inside. follows (Close ∷ stack) inside ∙ same_then (read inside) _ _ (λ a. scan_close stack a.1 ∙ sym (then_then (expect is_closing a.1) (λ rest. Ok (ExprTree.un op a.0, rest)) (λ r. go stack r.1))) ∙ sym (then_then (read inside) _ (λ r. go stack r.1))) ∙ sym (then_then (expect is_opening ts) _ (λ r. go stack r.1))
+      scan_test table is_open (Expr d ∷ Close ∷ stack) ts ∙ same_then (expect is_opening ts) _ _ (λ inside. follows (Close ∷ stack) inside ∙ same_then (read inside) _ _ (λ a. scan_test table is_close stack a.1 ∙ sym (then_then (expect is_closing a.1) (λ rest. Ok (ExprTree.un op a.0, rest)) (λ r. go stack r.1))) ∙ sym (then_then (read inside) _ (λ r. go stack r.1))) ∙ sym (then_then (expect is_opening ts) _ (λ r. go stack r.1))
 
   scan_choice : (stack : List Sym) (ts : List Token) → go (Open ∷ Expr d ∷ Comma ∷ Expr d ∷ Comma ∷ Expr d ∷ Close ∷ stack) ts ≡ (choice_at read ts >>= (λ r. go stack r.1))
   unfolding choice_at
   scan_choice stack ts =
       let end = λ (r : ExprTree × List Token). go stack r.1 in
-      scan_open (Expr d ∷ Comma ∷ Expr d ∷ Comma ∷ Expr d ∷ Close ∷ stack) ts ∙ same_then (expect is_opening ts) _ _ (λ inside. follows (Comma ∷ Expr d ∷ Comma ∷ Expr d ∷ Close ∷ stack) inside ∙ same_then (read inside) _ _ (λ c. scan_comma (Expr d ∷ Comma ∷ Expr d ∷ Close ∷ stack) c.1 ∙ same_then (expect is_comma c.1) _ _ (λ second. follows (Comma ∷ Expr d ∷ Close ∷ stack) second ∙ same_then (read second) _ _ (λ a. scan_comma (Expr d ∷ Close ∷ stack) a.1 ∙ same_then (expect is_comma a.1) _ _ (λ third. follows (Close ∷ stack) third ∙ same_then (read third) _ _ (λ b. scan_close stack b.1 ∙ sym (then_then (expect is_closing b.1) (λ rest. Ok (ExprTree.choose c.0 a.0 b.0, rest)) end)) ∙ sym (then_then (read third) _ end)) ∙ sym (then_then (expect is_comma a.1) _ end)) ∙ sym (then_then (read second) _ end)) ∙ sym (then_then (expect is_comma c.1) _ end)) ∙ sym (then_then (read inside) _ end)) ∙ sym (then_then (expect is_opening ts) _ end)
+      scan_test table is_open (Expr d ∷ Comma ∷ Expr d ∷ Comma ∷ Expr d ∷ Close ∷ stack) ts ∙ same_then (expect is_opening ts) _ _ (λ inside. follows (Comma ∷ Expr d ∷ Comma ∷ Expr d ∷ Close ∷ stack) inside ∙ same_then (read inside) _ _ (λ c. scan_test table is_between (Expr d ∷ Comma ∷ Expr d ∷ Close ∷ stack) c.1 ∙ same_then (expect is_comma c.1) _ _ (λ second. follows (Comma ∷ Expr d ∷ Close ∷ stack) second ∙ same_then (read second) _ _ (λ a. scan_test table is_between (Expr d ∷ Close ∷ stack) a.1 ∙ same_then (expect is_comma a.1) _ _ (λ third. follows (Close ∷ stack) third ∙ same_then (read third) _ _ (λ b. scan_test table is_close stack b.1 ∙ sym (then_then (expect is_closing b.1) (λ rest. Ok (ExprTree.choose c.0 a.0 b.0, rest)) end)) ∙ sym (then_then (read third) _ end)) ∙ sym (then_then (expect is_comma a.1) _ end)) ∙ sym (then_then (read second) _ end)) ∙ sym (then_then (expect is_comma c.1) _ end)) ∙ sym (then_then (read inside) _ end)) ∙ sym (then_then (expect is_opening ts) _ end)
 
 -- one level
 form_from : (d : ℕ) (read : ReadExpr) (stack : List Sym) (ts : List Token) (h : Head) → Follows (suc d) read → scan_from table (head_stack d h) false (suc (length ts)) (λ more. go (more ++ stack) ts) ≡ (cond (is_nothing h) (Err (Unexpected (suc (length ts)))) (form_at read h ts) >>= (λ r. go stack r.1))

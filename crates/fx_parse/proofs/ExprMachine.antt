@@ -22,6 +22,7 @@ use Rattle.fx_parse.specs.Grammars.{word, opening, closing, comma, binary_token,
 use Rattle.fx_parse.specs.Reader.{is_opening, is_closing, is_comma, Head, Leaf, Bracket, Before, Choice, Nothing, keyword_head, word_head, head_of, Middle, Binary, Glob, Neither, keyword_middle, mark_middle, word_middle, middle_of}
 use Rattle.fx_parse.proofs.KeywordLaws.{keyword_again}
 use Rattle.fx_parse.proofs.Machine.{Table, Runs, run_on, MeansAll, built}
+use Rattle.fx_parse.proofs.Tests.{passed, passed_step}
 use Rattle.fx_parse.proofs.Places.{Fits}
 
 -- what may be still to come
@@ -41,10 +42,6 @@ abbrev pub middle_stack : ℕ → Middle → Option (List Sym)
 middle_stack d (Binary op) = Some (Expr d ∷ Close ∷ [])
 middle_stack d Glob = Some (Text ∷ Close ∷ [])
 middle_stack d Neither = None
-
-abbrev pub passed : Bool → Option (List Sym)
-passed true = Some []
-passed false = None
 
 abbrev pub is_text : Token → Bool
 is_text (token.Str v) = true
@@ -306,12 +303,6 @@ middle_step d x Glob more ts s e r =
     inr (p.3.0, ap (λ y. y ∷ ts) s ∙ ap (λ l. word keyword.Only ∷ l) (p.2 ∙ ap (λ l. l ++ p.1) p.3.1 ∙ ap (λ l. token.Str p.3.0 ∷ l) (closed p.1 p.4)))
 middle_step d x Neither more ts s e r = absurd cc
 
-passed_step : (b : Bool) (more : List Sym) (ts : List Token) → passed b ≡ Some more → Reads more ts → (b ≡ true) × (ts ≡ [])
-passed_step true more ts e r =
-    let none : [] ≡ more = cc in
-    (refl, subst (λ m. Reads m ts) (sym none) r)
-passed_step false more ts e r = absurd cc
-
 text_is : (x : Token) → is_text x ≡ true → (v : List ℕ) × (x ≡ token.Str v)
 text_is (token.Str v) e = (v, refl)
 text_is _ e = absurd cc
@@ -320,12 +311,12 @@ step : (s : Sym) (x : Token) (more : List Sym) (ts : List Token) → expand s x 
 step (Expr d) x more ts e r = expr_step d x (head_of x) more ts (head_spells x) e r
 step (Operator d) x more ts e r = middle_step d x (middle_of x) more ts (middle_spells x) e r
 step Text x more ts e r =
-    let p = passed_step (is_text x) more ts e r in
+    let p = passed_step (λ m. Reads m ts) (is_text x) more e r in
     let v = text_is x p.0 in
     (v.0, ap (λ l. x ∷ l) p.1 ∙ ap (λ y. y ∷ []) v.1)
-step Open x more ts e r = let p = passed_step (is_opening x) more ts e r in ap (λ l. x ∷ l) p.1 ∙ ap (λ y. y ∷ []) (is_open x p.0)
-step Close x more ts e r = let p = passed_step (is_closing x) more ts e r in ap (λ l. x ∷ l) p.1 ∙ ap (λ y. y ∷ []) (is_close x p.0)
-step Comma x more ts e r = let p = passed_step (is_comma x) more ts e r in ap (λ l. x ∷ l) p.1 ∙ ap (λ y. y ∷ []) (is_part x p.0)
+step Open x more ts e r = let p = passed_step (λ m. Reads m ts) (is_opening x) more e r in ap (λ l. x ∷ l) p.1 ∙ ap (λ y. y ∷ []) (is_open x p.0)
+step Close x more ts e r = let p = passed_step (λ m. Reads m ts) (is_closing x) more e r in ap (λ l. x ∷ l) p.1 ∙ ap (λ y. y ∷ []) (is_close x p.0)
+step Comma x more ts e r = let p = passed_step (λ m. Reads m ts) (is_comma x) more e r in ap (λ l. x ∷ l) p.1 ∙ ap (λ y. y ∷ []) (is_part x p.0)
 
 whole : (s : Sym) → (ts : List Token) × (l : List ℕ) × Runs table (s ∷ []) ts l []
 whole (Expr d) = (token.Str [] ∷ [], d ∷ [], ([], [], refl, refl, (refl, refl)))

@@ -11,4 +11,5 @@ pub mod ShapeMachine
 pub mod OnePlace
 pub mod Signs
 pub mod Steps
+pub mod Tests
 pub mod Within

@@ -10,29 +10,23 @@ use Rattle.fx_parse.specs.Stuck.{Stuck, Unexpected, TooNested, ◌>>=◌}
 use Rattle.fx_parse.specs.Grammars.{word, opening, closing, comma, shape_tokens, shape_levels, shapes}
 use Rattle.fx_parse.specs.Reader.{expect, is_opening, is_closing, is_comma}
 use Rattle.fx_parse.specs.ShapeReader.{shape_of, ReadShape, pair_at, opt_at, table_at, shape_form_at, is_no_shape, shape_too_nested, read_shape}
-use Rattle.fx_parse.proofs.Machine.{at_most, scan, scan_from}
+use Rattle.fx_parse.proofs.Machine.{at_most, scan}
+use Rattle.fx_parse.proofs.Tests.{IsTest, scan_test}
 use Rattle.fx_parse.proofs.ReaderPlaces.{Follows}
-use Rattle.fx_parse.proofs.ShapeMachine.{Sym, Shape, Open, Close, Comma, table, shape_stack, passed, shape_word, shape_fits}
+use Rattle.fx_parse.proofs.ShapeMachine.{Sym, Shape, Open, Close, Comma, table, shape_stack, shape_word, shape_fits}
 use Rattle.fx_parse.proofs.ExprLink.{same_then, then_then, front_low, rest_low, tail_low}
 
 abbrev go : List Sym → List Token → Result (List Token) Stuck
 go stack ts = scan table stack ts
 
-from_passed : (b : Bool) (stack : List Sym) (ts : List Token) (n : ℕ) → scan_from table (passed b) false n (λ more. go (more ++ stack) ts) ≡ (cond b (Ok ts) (Err (Unexpected n)) >>= (λ r. go stack r))
-from_passed true stack ts n = refl
-from_passed false stack ts n = refl
+is_open : IsTest table Open is_opening
+is_open = record { expands = λ x. refl; low = λ x. refl }
 
-scan_open : (stack : List Sym) (ts : List Token) → go (Open ∷ stack) ts ≡ (expect is_opening ts >>= (λ r. go stack r))
-scan_open stack [] = refl
-scan_open stack (x ∷ ts) = from_passed (is_opening x) stack ts (suc (length ts))
+is_close : IsTest table Close is_closing
+is_close = record { expands = λ x. refl; low = λ x. refl }
 
-scan_close : (stack : List Sym) (ts : List Token) → go (Close ∷ stack) ts ≡ (expect is_closing ts >>= (λ r. go stack r))
-scan_close stack [] = refl
-scan_close stack (x ∷ ts) = from_passed (is_closing x) stack ts (suc (length ts))
-
-scan_comma : (stack : List Sym) (ts : List Token) → go (Comma ∷ stack) ts ≡ (expect is_comma ts >>= (λ r. go stack r))
-scan_comma stack [] = refl
-scan_comma stack (x ∷ ts) = from_passed (is_comma x) stack ts (suc (length ts))
+is_between : IsTest table Comma is_comma
+is_between = record { expands = λ x. refl; low = λ x. refl }
 
 -- what a reader does, the machine does from its start at a level
 abbrev GoesAs : ℕ → ReadShape → Type 0
@@ -48,13 +42,13 @@ made make a = expect is_closing a.1 >>= closes make a
 module _ (d : ℕ) (read : ReadShape) (follows : GoesAs d read) where
   scan_inside : (make : ShapeTree → ShapeTree) (stack : List Sym) (ts : List Token) → go (Open ∷ Shape d ∷ Close ∷ stack) ts ≡ ((expect is_opening ts >>= (λ inside. read inside >>= made make)) >>= (λ r. go stack r.1))
   scan_inside make stack ts =
-      scan_open (Shape d ∷ Close ∷ stack) ts ∙ same_then (expect is_opening ts) _ _ (λ inside. follows (Close ∷ stack) inside ∙ same_then (read inside) _ _ (λ a. scan_close stack a.1 ∙ sym (then_then (expect is_closing a.1) (closes make a) (λ r. go stack r.1))) ∙ sym (then_then (read inside) (made make) (λ r. go stack r.1))) ∙ sym (then_then (expect is_opening ts) (λ inside. read inside >>= made make) (λ r. go stack r.1))
+      scan_test table is_open (Shape d ∷ Close ∷ stack) ts ∙ same_then (expect is_opening ts) _ _ (λ inside. follows (Close ∷ stack) inside ∙ same_then (read inside) _ _ (λ a. scan_test table is_close stack a.1 ∙ sym (then_then (expect is_closing a.1) (closes make a) (λ r. go stack r.1))) ∙ sym (then_then (read inside) (made make) (λ r. go stack r.1))) ∙ sym (then_then (expect is_opening ts) (λ inside. read inside >>= made make) (λ r. go stack r.1))
 
   scan_pair : (stack : List Sym) (ts : List Token) → go (Open ∷ Shape d ∷ Comma ∷ Shape d ∷ Close ∷ stack) ts ≡ (pair_at read ts >>= (λ r. go stack r.1))
   unfolding pair_at
   scan_pair stack ts =
       let end = λ (r : ShapeTree × List Token). go stack r.1 in
-      scan_open (Shape d ∷ Comma ∷ Shape d ∷ Close ∷ stack) ts ∙ same_then (expect is_opening ts) _ _ (λ inside. follows (Comma ∷ Shape d ∷ Close ∷ stack) inside ∙ same_then (read inside) _ _ (λ a. scan_comma (Shape d ∷ Close ∷ stack) a.1 ∙ same_then (expect is_comma a.1) _ _ (λ second. follows (Close ∷ stack) second ∙ same_then (read second) _ _ (λ b. scan_close stack b.1 ∙ sym (then_then (expect is_closing b.1) (λ rest. Ok (ShapeTree.pair a.0 b.0, rest)) end)) ∙ sym (then_then (read second) _ end)) ∙ sym (then_then (expect is_comma a.1) _ end)) ∙ sym (then_then (read inside) _ end)) ∙ sym (then_then (expect is_opening ts) _ end)
+      scan_test table is_open (Shape d ∷ Comma ∷ Shape d ∷ Close ∷ stack) ts ∙ same_then (expect is_opening ts) _ _ (λ inside. follows (Comma ∷ Shape d ∷ Close ∷ stack) inside ∙ same_then (read inside) _ _ (λ a. scan_test table is_between (Shape d ∷ Close ∷ stack) a.1 ∙ same_then (expect is_comma a.1) _ _ (λ second. follows (Close ∷ stack) second ∙ same_then (read second) _ _ (λ b. scan_test table is_close stack b.1 ∙ sym (then_then (expect is_closing b.1) (λ rest. Ok (ShapeTree.pair a.0 b.0, rest)) end)) ∙ sym (then_then (read second) _ end)) ∙ sym (then_then (expect is_comma a.1) _ end)) ∙ sym (then_then (read inside) _ end)) ∙ sym (then_then (expect is_opening ts) _ end)
 
 -- one level
 form_from : (d : ℕ) (read : ReadShape) (stack : List Sym) (ts : List Token) (h : ShapeStart) → GoesAs (suc d) read → scan_from table (shape_stack d h) false (suc (length ts)) (λ more. go (more ++ stack) ts) ≡ (cond (is_no_shape h) (Err (Unexpected (suc (length ts)))) (shape_form_at read h ts) >>= (λ r. go stack r.1))

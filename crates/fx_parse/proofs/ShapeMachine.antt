@@ -14,6 +14,7 @@ use Rattle.fx_parse.specs.Reader.{is_opening, is_closing, is_comma}
 use Rattle.fx_parse.specs.ShapeReader.{keyword_shape, word_shape, shape_of}
 use Rattle.fx_parse.proofs.KeywordLaws.{keyword_again}
 use Rattle.fx_parse.proofs.Machine.{Table, Runs, run_on, MeansAll, built}
+use Rattle.fx_parse.proofs.Tests.{passed, passed_step}
 use Rattle.fx_parse.proofs.Places.{Fits}
 use Rattle.fx_parse.proofs.ExprMachine.{keyword_spelled, is_open, is_close, is_part}
 
@@ -30,10 +31,6 @@ shape_stack d start.Pair = Some (Open ∷ Shape (suc d) ∷ Comma ∷ Shape (suc
 shape_stack d start.Opt = Some (Open ∷ Shape (suc d) ∷ Close ∷ [])
 shape_stack d start.Table = Some (Open ∷ Shape (suc d) ∷ Close ∷ [])
 shape_stack d start.Nothing = None
-
-abbrev pub passed : Bool → Option (List Sym)
-passed true = Some []
-passed false = None
 
 abbrev pub expand : Sym → Token → Option (List Sym)
 expand (Shape d) x = shape_stack d (shape_of x)
@@ -154,17 +151,11 @@ shape_step d x start.Table more ts s e r =
     (ShapeTree.table a.0, ap (λ y. y ∷ ts) s ∙ ap (λ z. word keyword.Table ∷ z) a.1)
 shape_step d x start.Nothing more ts s e r = absurd cc
 
-passed_step : (b : Bool) (more : List Sym) (ts : List Token) → passed b ≡ Some more → Reads more ts → (b ≡ true) × (ts ≡ [])
-passed_step true more ts e r =
-    let none : [] ≡ more = cc in
-    (refl, subst (λ m. Reads m ts) (sym none) r)
-passed_step false more ts e r = absurd cc
-
 step : (s : Sym) (x : Token) (more : List Sym) (ts : List Token) → expand s x ≡ Some more → Reads more ts → Means s (x ∷ ts)
 step (Shape d) x more ts e r = shape_step d x (shape_of x) more ts (start_spells x) e r
-step Open x more ts e r = let p = passed_step (is_opening x) more ts e r in ap (λ l. x ∷ l) p.1 ∙ ap (λ y. y ∷ []) (is_open x p.0)
-step Close x more ts e r = let p = passed_step (is_closing x) more ts e r in ap (λ l. x ∷ l) p.1 ∙ ap (λ y. y ∷ []) (is_close x p.0)
-step Comma x more ts e r = let p = passed_step (is_comma x) more ts e r in ap (λ l. x ∷ l) p.1 ∙ ap (λ y. y ∷ []) (is_part x p.0)
+step Open x more ts e r = let p = passed_step (λ m. Reads m ts) (is_opening x) more e r in ap (λ l. x ∷ l) p.1 ∙ ap (λ y. y ∷ []) (is_open x p.0)
+step Close x more ts e r = let p = passed_step (λ m. Reads m ts) (is_closing x) more e r in ap (λ l. x ∷ l) p.1 ∙ ap (λ y. y ∷ []) (is_close x p.0)
+step Comma x more ts e r = let p = passed_step (λ m. Reads m ts) (is_comma x) more e r in ap (λ l. x ∷ l) p.1 ∙ ap (λ y. y ∷ []) (is_part x p.0)
 
 whole : (s : Sym) → (ts : List Token) × (l : List ℕ) × Runs table (s ∷ []) ts l []
 whole (Shape d) = (word keyword.Str ∷ [], d ∷ [], ([], [], ap (shape_stack d) (shape_word keyword.Str), refl, (refl, refl)))

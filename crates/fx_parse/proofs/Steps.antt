@@ -5,11 +5,6 @@ use Rattle.fx_parse.specs.Stuck.{Stuck, Unexpected, ◌>>=◌}
 use Rattle.fx_parse.proofs.Machine.{Table, Runs, run_on, scan, scan_from}
 use Rattle.fx_parse.proofs.ExprLink.{same_then, then_then}
 
--- what a test lets pass
-abbrev pub passed : {Sym : Type 0} → Bool → Option (List Sym)
-passed true = Some []
-passed false = None
-
 module _ {Sym : Type 0} (m : Table Sym) where
   -- over these tokens, which have these levels, the stack becomes the other
   pub record Run (stack : List Sym) (ts : List Token) (levels : List ℕ) (end : List Sym) : Type 0 where
@@ -23,11 +18,6 @@ module _ {Sym : Type 0} (m : Table Sym) where
 
   pub goes : {stack middle end : List Sym} {a b : List Token} {k l : List ℕ} → Run stack a k middle → Run middle b l end → Run stack (a ++ b) (k ++ l) end
   goes {stack} {middle} {end} {a} {b} {k} {l} r q = record { runs = run_on m a stack middle end b k l r.runs q.runs }
-
-  -- a test in the machine is one in the reader
-  pub from_passed : (b : Bool) (stack : List Sym) (ts : List Token) (n : ℕ) → scan_from m (passed b) false n (λ more. scan m (more ++ stack) ts) ≡ (cond b (Ok ts) (Err (Unexpected n)) >>= (λ r. scan m stack r))
-  from_passed true stack ts n = refl
-  from_passed false stack ts n = refl
 
 -- a reading that goes on: first one part, then the others
 pub on : {A B C : Type 0} {start : Result C Stuck} (r : Result A Stuck) (go : A → Result C Stuck) (k : A → Result B Stuck) (end : B → Result C Stuck) → start ≡ (r >>= go) → ((a : A) → go a ≡ (k a >>= end)) → start ≡ ((r >>= k) >>= end)

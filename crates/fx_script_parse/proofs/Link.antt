@@ -19,7 +19,8 @@ use Rattle.fx_parse.proofs.ExprLink.{expr_follows}
 use Rattle.fx_parse.proofs.ShapeMachine as shape
 use Rattle.fx_parse.proofs.ShapeMachine.{Shape}
 use Rattle.fx_parse.proofs.ShapeLink.{shape_reader}
-use Rattle.fx_parse.proofs.Steps.{from_passed, on, on_ok}
+use Rattle.fx_parse.proofs.Steps.{on, on_ok}
+use Rattle.fx_parse.proofs.Tests.{IsTest, scan_test, from_named}
 use Rattle.fx_parse.proofs.Within.{goes_within}
 use Rattle.fx_spec.specs.CommandTree.{CommandTree}
 use Rattle.fx_script_parse.specs.declared.start.ActStart.{ActStart}
@@ -32,17 +33,12 @@ use Rattle.fx_script_parse.proofs.Machine.{Sym, Txn, Command, Commands, Act, Par
 abbrev pub go : List Sym → List Token → Result (List Token) Stuck
 go stack ts = scan table stack ts
 
-scan_sign : (s : Sign) (stack : List Sym) (ts : List Token) → go (Fixed s ∷ stack) ts ≡ (expect (is_sign s) ts >>= (λ r. go stack r))
-scan_sign s stack [] = refl
-scan_sign s stack (x ∷ ts) = from_passed table (is_sign s x) stack ts (suc (length ts))
-
-named : (b : Bool) (w : List ℕ) (stack : List Sym) (ts : List Token) → (cond b (Ok ts) (Err (Unexpected (suc (length ts)))) >>= (λ r. go stack r)) ≡ (let r : Result (List ℕ × List Token) Stuck = cond b (Ok (w, ts)) (Err (Unexpected (suc (length ts)))) in r >>= (λ r. go stack r.1))
-named true w stack ts = refl
-named false w stack ts = refl
+signs : (s : Sign) → IsTest table (Fixed s) (is_sign s)
+signs s = record { expands = λ x. refl; low = λ x. refl }
 
 scan_name : (stack : List Sym) (ts : List Token) → go (Name ∷ stack) ts ≡ (name_at ts >>= (λ r. go stack r.1))
 scan_name stack [] = refl
-scan_name stack (token.Word w ∷ ts) = from_passed table (is_name w) stack ts (suc (length ts)) ∙ named (is_name w) w stack ts
+scan_name stack (token.Word w ∷ ts) = from_named table (is_name w) w stack ts
 scan_name stack (token.Number n ∷ ts) = refl
 scan_name stack (token.Str v ∷ ts) = refl
 scan_name stack (token.Mark m ∷ ts) = refl
@@ -148,22 +144,22 @@ module _ (d : ℕ) (command : Read CommandTree) (goes : GoesAs d command) where
   scan_braced : (stack : List Sym) (ts : List Token) → go (Fixed sign.LeftBrace ∷ Commands d ∷ stack) ts ≡ (braced_at command ts >>= (λ r. go stack r.1))
   unfolding braced_at
   scan_braced stack ts =
-      on (expect (is_sign sign.LeftBrace) ts) _ _ _ (scan_sign sign.LeftBrace _ ts) (λ inside. scan_many stack inside)
+      on (expect (is_sign sign.LeftBrace) ts) _ _ _ (scan_test table (signs sign.LeftBrace) _ ts) (λ inside. scan_many stack inside)
 
 -- the parts of a command of level d
 module _ (d : ℕ) (expr : Read ExprTree) (expr_as : ExprGoesAs (suc d) expr) where
   scan_bracket : (stack : List Sym) (ts : List Token) → go (Fixed sign.LeftParen ∷ Part (Expr (suc d)) ∷ Fixed sign.RightParen ∷ stack) ts ≡ (bracketed_at expr ts >>= (λ r. go stack r.1))
   unfolding bracketed_at
   scan_bracket stack ts =
-      on (expect (is_sign sign.LeftParen) ts) _ _ _ (scan_sign sign.LeftParen _ ts) (λ inside.
+      on (expect (is_sign sign.LeftParen) ts) _ _ _ (scan_test table (signs sign.LeftParen) _ ts) (λ inside.
       on (expr inside) _ _ _ (expr_as _ inside) (λ e.
-      on (expect (is_sign sign.RightParen) e.1) _ _ _ (scan_sign sign.RightParen stack e.1) (λ rest. refl)))
+      on (expect (is_sign sign.RightParen) e.1) _ _ _ (scan_test table (signs sign.RightParen) stack e.1) (λ rest. refl)))
 
   scan_valued : (stack : List Sym) (ts : List Token) → go (Name ∷ Fixed sign.Equal ∷ Part (Expr (suc d)) ∷ stack) ts ≡ (valued_at expr ts >>= (λ r. go stack r.2))
   unfolding valued_at
   scan_valued stack ts =
       on (name_at ts) _ _ _ (scan_name _ ts) (λ x.
-      on (expect (is_sign sign.Equal) x.1) _ _ _ (scan_sign sign.Equal _ x.1) (λ value.
+      on (expect (is_sign sign.Equal) x.1) _ _ _ (scan_test table (signs sign.Equal) _ x.1) (λ value.
       on (expr value) _ _ _ (expr_as _ value) (λ e. refl)))
 
   scan_act_form : (a : ActStart) (stack : List Sym) (ts : List Token) → go (act_stack d a ++ stack) ts ≡ (act_form_at expr a ts >>= (λ r. go stack r.1))
@@ -207,14 +203,14 @@ module _ (d : ℕ) (expr : Read ExprTree) (expr_as : ExprGoesAs (suc d) expr) wh
   scan_branch command goes stack ts =
       on (bracketed_at expr ts) _ _ _ (scan_bracket _ ts) (λ e.
       on (braced_at command e.1) _ _ _ (scan_braced (suc d) command goes _ e.1) (λ a.
-      on (expect (is_sign sign.Else) a.1) _ _ _ (scan_sign sign.Else _ a.1) (λ second.
+      on (expect (is_sign sign.Else) a.1) _ _ _ (scan_test table (signs sign.Else) _ a.1) (λ second.
       on (braced_at command second) _ _ _ (scan_braced (suc d) command goes stack second) (λ b. refl))))
 
   scan_each : (command : Read CommandTree) (goes : GoesAs (suc d) command) (stack : List Sym) (ts : List Token) → go (Name ∷ Fixed sign.In ∷ Fixed sign.LeftParen ∷ Part (Expr (suc d)) ∷ Fixed sign.RightParen ∷ Fixed sign.LeftBrace ∷ Commands (suc d) ∷ stack) ts ≡ (each_at expr command ts >>= (λ r. go stack r.1))
   unfolding each_at
   scan_each command goes stack ts =
       on (name_at ts) _ _ _ (scan_name _ ts) (λ x.
-      on (expect (is_sign sign.In) x.1) _ _ _ (scan_sign sign.In _ x.1) (λ set.
+      on (expect (is_sign sign.In) x.1) _ _ _ (scan_test table (signs sign.In) _ x.1) (λ set.
       on (bracketed_at expr set) _ _ _ (scan_bracket _ set) (λ e.
       on (braced_at command e.1) _ _ _ (scan_braced (suc d) command goes stack e.1) (λ a. refl))))
 
@@ -223,7 +219,7 @@ module _ (d : ℕ) (shape : Read ShapeTree) (shape_as : ShapeGoesAs (suc d) shap
   unfolding typed_at
   scan_typed stack ts =
       on (name_at ts) _ _ _ (scan_name _ ts) (λ x.
-      on (expect (is_sign sign.Colon) x.1) _ _ _ (scan_sign sign.Colon _ x.1) (λ typed.
+      on (expect (is_sign sign.Colon) x.1) _ _ _ (scan_test table (signs sign.Colon) _ x.1) (λ typed.
       on (shape typed) _ _ _ (shape_as _ typed) (λ s. refl)))
 
   scan_fetch : (stack : List Sym) (ts : List Token) → go (Name ∷ Fixed sign.Colon ∷ Shaped (Shape (suc d)) ∷ stack) ts ≡ (fetch_at shape ts >>= (λ r. go stack r.1))

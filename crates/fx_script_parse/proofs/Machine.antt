@@ -19,7 +19,8 @@ use Rattle.fx_parse.proofs.ExprMachine.{Expr, expr_runs}
 use Rattle.fx_parse.proofs.ShapeMachine as shape
 use Rattle.fx_parse.proofs.ShapeMachine.{Shape, shape_runs}
 use Rattle.fx_parse.proofs.Signs.{sign_again, names}
-use Rattle.fx_parse.proofs.Steps.{passed, Run, ran, takes, goes}
+use Rattle.fx_parse.proofs.Steps.{Run, ran, takes, goes}
+use Rattle.fx_parse.proofs.Tests.{passed}
 use Rattle.fx_parse.proofs.Within.{lifted, Holds, run_within}
 use Rattle.fx_spec.specs.CommandTree.{ActTree, CommandTree, Block, block}
 use Rattle.fx_grammar.specs.Tokens.{act_tokens, command_tokens, block_tokens, txn_tokens, act_names, command_names, block_names, txn_names}

@@ -21,7 +21,8 @@ use Rattle.fx_parse.proofs.ExprMachine.{Expr, keyword_spelled, expr_fits}
 use Rattle.fx_parse.proofs.ShapeMachine as shape
 use Rattle.fx_parse.proofs.ShapeMachine.{Shape, shape_fits}
 use Rattle.fx_parse.proofs.Signs.{sign_is, names, name_is}
-use Rattle.fx_parse.proofs.Steps.{passed, ran}
+use Rattle.fx_parse.proofs.Steps.{ran}
+use Rattle.fx_parse.proofs.Tests.{passed, passed_step}
 use Rattle.fx_parse.proofs.Within.{run_within, Over, part_step}
 use Rattle.fx_spec.specs.CommandTree.{ActTree, CommandTree, Block, block}
 use Rattle.fx_grammar.specs.Tokens.{act_tokens, command_tokens, block_tokens, txn_tokens, act_names, command_names, block_names, txn_names}
@@ -347,12 +348,6 @@ txn_step d x true more ts h e r =
     }
 txn_step d x false more ts h e r = absurd cc
 
-passed_step : (b : Bool) (more : List Sym) (ts : List Token) → passed b ≡ Some more → All more ts → (b ≡ true) × (ts ≡ [])
-passed_step true more ts e r =
-    let none : [] ≡ more = cc in
-    (refl, subst (λ m. All m ts) (sym none) r)
-passed_step false more ts e r = absurd cc
-
 step : (s : Sym) (x : Token) (more : List Sym) (ts : List Token) → table.expand s x ≡ Some more → All more ts → Means s (x ∷ ts)
 step (Txn d) x more ts e r = txn_step d x (is_sign sign.Txn x) more ts refl e r
 step (Command d) x more ts e r = command_step d x (start_of x) more ts (start_spells x) e r
@@ -361,10 +356,10 @@ step (Act d) x more ts e r = found_step d x (start_of x) more ts (start_spells x
 step (Part s) x more ts e r = part_step inner.table table Part holds Means (λ s ts over. over) s x more ts e r
 step (Shaped s) x more ts e r = part_step shape.table table Shaped shape_holds Means (λ s ts over. over) s x more ts e r
 step Name x more ts e r =
-    let p = passed_step (names x) more ts e r in
+    let p = passed_step (λ m. All m ts) (names x) more e r in
     let n = name_is x p.0 in
     (n.0, n.1, ap (λ l. x ∷ l) p.1 ∙ ap (λ y. y ∷ []) n.2)
-step (Fixed s) x more ts e r = let p = passed_step (is_sign s x) more ts e r in ap (λ l. x ∷ l) p.1 ∙ ap (λ y. y ∷ []) (sign_is s x p.0)
+step (Fixed s) x more ts e r = let p = passed_step (λ m. All m ts) (is_sign s x) more e r in ap (λ l. x ∷ l) p.1 ∙ ap (λ y. y ∷ []) (sign_is s x p.0)
 
 a_word : is_name (95 ∷ []) ≡ true
 a_word = refl

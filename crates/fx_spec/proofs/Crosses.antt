@@ -59,10 +59,10 @@ pub Description-sync : IsSync (description.the_field).row
 Description-sync = search (sendable, crosses, Defs-sync, Spec-sync) depth 40
 
 pub Checked-send : IsSend (checked.the_field).row
-Checked-send = search (sendable, crosses, Description-send) depth 40
+Checked-send = search (sendable, crosses, Description-send, Description-sync) depth 40
 
 pub Checked-sync : IsSync (checked.the_field).row
-Checked-sync = search (sendable, crosses, Description-sync) depth 40
+Checked-sync = search (sendable, crosses, Description-send, Description-sync) depth 40
 
 pub Act-send : IsSend (act.the_field).row
 Act-send = search (sendable, crosses, Expr-send) depth 40

@@ -1,5 +1,4 @@
-ghost use Rattle.std.specs.Prelude.{◌≡◌};
-ghost use Rattle.std.specs.Prelude.{[]};
+ghost use Rattle.std.specs.Prelude.{◌≡◌, [], IfOk};
 ghost use Rattle.fx_spec.specs.Views.{spec_tree};
 ghost use Rattle.fx_spec.specs.Parts.{part_of};
 ghost use Rattle.fx_spec.specs.TextViews.{written};
@@ -10,11 +9,14 @@ use crate::description::{Defs, Description};
 use crate::part::Part;
 use crate::spec::Spec;
 use crate::txn::Txns;
+use fx_base::NoMemory;
+use std::alloc::Global;
 use std::marker::Model;
+use std::sync::Arc;
 
-/// A well-shaped description, nested at most 64 deep. Contracts see what it means.
+/// A well-shaped description, nested at most 64 deep. What is written is shared. Contracts see what it means.
 pub struct Checked {
-    description: Description,
+    description: Arc<Description>,
 }
 
 /// It is written out, so that its parts are dropped in this crate alone.
@@ -38,18 +40,27 @@ impl Model for Checked {
     ghost use Rattle.fx_spec.specs.Written.{text_tree};
     ghost use Rattle.fx_spec.specs.WellShaped.{IsChecked};
 
-    ghost view = { λ c. text_tree (written c.description) };
+    ghost view = { λ c. text_tree (written c.description.value) };
 
-    ghost invariant = { λ c. IsChecked (written c.description) };
+    ghost invariant = { λ c. IsChecked (written c.description.value) };
 }
 
 impl Checked {
     /// The description, which the caller has found to be well shaped.
-    pub fn of(description: Description) -> Checked
+    pub fn of(alloc: Global, description: Description) -> Result<Checked, NoMemory>
         requires { IsChecked (written description) }
-        ensures { result ≡ text_tree (written description) }
+        ensures { IfOk result (λ checked. checked ≡ text_tree (written description)) }
     {
-        Checked { description }
+        let description = Arc::new(alloc, description)?;
+        Ok(Checked { description })
+    }
+
+    /// The same description, shared.
+    pub fn share(&self) -> Result<Checked, NoMemory>
+        ensures { IfOk result (λ checked. checked ≡ self.now) }
+    {
+        let description = Arc::try_clone(&self.description)?;
+        Ok(Checked { description })
     }
 
     /// Lets go of the description.

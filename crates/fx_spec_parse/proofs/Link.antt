@@ -18,7 +18,8 @@ use Rattle.fx_parse.proofs.ExprLink.{expr_follows, then_then}
 use Rattle.fx_parse.proofs.ShapeMachine as shape
 use Rattle.fx_parse.proofs.ShapeMachine.{Shape}
 use Rattle.fx_parse.proofs.ShapeLink.{shape_reader}
-use Rattle.fx_parse.proofs.Steps.{passed, from_passed, on, on_ok}
+use Rattle.fx_parse.proofs.Steps.{on, on_ok}
+use Rattle.fx_parse.proofs.Tests.{passed, IsTest, scan_test, from_named}
 use Rattle.fx_parse.proofs.Within.{goes_within}
 use Rattle.fx_spec.specs.Written.{DefTree, TextTree}
 use Rattle.fx_spec_parse.specs.declared.start.Start.{Start}
@@ -30,17 +31,12 @@ use Rattle.fx_spec_parse.proofs.Machine.{Kind, Arg, Param, Sym, Text, Def, Spec,
 abbrev pub go : List Sym → List Token → Result (List Token) Stuck
 go stack ts = scan table stack ts
 
-scan_sign : (s : Sign) (stack : List Sym) (ts : List Token) → go (Fixed s ∷ stack) ts ≡ (expect (is_sign s) ts >>= (λ r. go stack r))
-scan_sign s stack [] = refl
-scan_sign s stack (x ∷ ts) = from_passed table (is_sign s x) stack ts (suc (length ts))
-
-named : (b : Bool) (w : List ℕ) (stack : List Sym) (ts : List Token) → (cond b (Ok ts) (Err (Unexpected (suc (length ts)))) >>= (λ r. go stack r)) ≡ (let r : Result (List ℕ × List Token) Stuck = cond b (Ok (w, ts)) (Err (Unexpected (suc (length ts)))) in r >>= (λ r. go stack r.1))
-named true w stack ts = refl
-named false w stack ts = refl
+signs : (s : Sign) → IsTest table (Fixed s) (is_sign s)
+signs s = record { expands = λ x. refl; low = λ x. refl }
 
 scan_name : (stack : List Sym) (ts : List Token) → go (Name ∷ stack) ts ≡ (name_at ts >>= (λ r. go stack r.1))
 scan_name stack [] = refl
-scan_name stack (token.Word w ∷ ts) = from_passed table (is_name w) stack ts (suc (length ts)) ∙ named (is_name w) w stack ts
+scan_name stack (token.Word w ∷ ts) = from_named table (is_name w) w stack ts
 scan_name stack (token.Number n ∷ ts) = refl
 scan_name stack (token.Str v ∷ ts) = refl
 scan_name stack (token.Mark m ∷ ts) = refl
@@ -138,7 +134,7 @@ module _ (k : Kind) (d : ℕ) where
     scan_another : (stack : List Sym) (done : List X) (ts : List Token) → go (Fixed sign.Comma ∷ part_top k d ∷ (part_after k d ++ stack)) ts ≡ (another_at part done ts >>= (λ c. go stack c.1))
     unfolding another_at
     scan_another stack done ts =
-        on (expect (is_sign sign.Comma) ts) _ _ _ (scan_sign sign.Comma _ ts) (λ next. scan_added stack done next)
+        on (expect (is_sign sign.Comma) ts) _ _ _ (scan_test table (signs sign.Comma) _ ts) (λ next. scan_added stack done next)
 
     another_shrinks : (done : List X) (ts : List Token) (c : List X × List Token) → another_at part done ts ≡ Ok c → length c.1 < length ts
     another_shrinks done ts c e =
@@ -176,48 +172,48 @@ module _ (d : ℕ) (expr : ReadExpr) (spec : ReadSpec) (expr_as : ExprGoesAs d e
   unfolding focus_at
   scan_focus stack ts =
       on (expr ts) _ _ _ (expr_as _ ts) (λ e.
-      on (expect (is_sign sign.ColonColon) e.1) _ _ _ (scan_sign sign.ColonColon _ e.1) (λ below.
+      on (expect (is_sign sign.ColonColon) e.1) _ _ _ (scan_test table (signs sign.ColonColon) _ e.1) (λ below.
       on (spec below) _ _ _ (spec_as _ below) (λ s.
-      on (expect (is_sign sign.RightParen) s.1) _ _ _ (scan_sign sign.RightParen stack s.1) (λ rest. refl))))
+      on (expect (is_sign sign.RightParen) s.1) _ _ _ (scan_test table (signs sign.RightParen) stack s.1) (λ rest. refl))))
 
   scan_pair : (stack : List Sym) (ts : List Token) → go (Name ∷ Fixed sign.Colon ∷ Spec d ∷ Fixed sign.Comma ∷ Spec d ∷ Fixed sign.RightAngle ∷ stack) ts ≡ (pair_at spec ts >>= (λ r. go stack r.1))
   unfolding pair_at
   scan_pair stack ts =
       on (name_at ts) _ _ _ (scan_name _ ts) (λ x.
-      on (expect (is_sign sign.Colon) x.1) _ _ _ (scan_sign sign.Colon _ x.1) (λ first.
+      on (expect (is_sign sign.Colon) x.1) _ _ _ (scan_test table (signs sign.Colon) _ x.1) (λ first.
       on (spec first) _ _ _ (spec_as _ first) (λ s.
-      on (expect (is_sign sign.Comma) s.1) _ _ _ (scan_sign sign.Comma _ s.1) (λ second.
+      on (expect (is_sign sign.Comma) s.1) _ _ _ (scan_test table (signs sign.Comma) _ s.1) (λ second.
       on (spec second) _ _ _ (spec_as _ second) (λ t.
-      on (expect (is_sign sign.RightAngle) t.1) _ _ _ (scan_sign sign.RightAngle stack t.1) (λ rest. refl))))))
+      on (expect (is_sign sign.RightAngle) t.1) _ _ _ (scan_test table (signs sign.RightAngle) stack t.1) (λ rest. refl))))))
 
   scan_comp : (stack : List Sym) (ts : List Token) → go (Spec d ∷ Fixed sign.Bar ∷ Name ∷ Fixed sign.In ∷ Part (Expr d) ∷ Fixed sign.RightBrace ∷ stack) ts ≡ (comp_at expr spec ts >>= (λ r. go stack r.1))
   unfolding comp_at
   scan_comp stack ts =
       on (spec ts) _ _ _ (spec_as _ ts) (λ s.
-      on (expect (is_sign sign.Bar) s.1) _ _ _ (scan_sign sign.Bar _ s.1) (λ after.
+      on (expect (is_sign sign.Bar) s.1) _ _ _ (scan_test table (signs sign.Bar) _ s.1) (λ after.
       on (name_at after) _ _ _ (scan_name _ after) (λ x.
-      on (expect (is_sign sign.In) x.1) _ _ _ (scan_sign sign.In _ x.1) (λ set.
+      on (expect (is_sign sign.In) x.1) _ _ _ (scan_test table (signs sign.In) _ x.1) (λ set.
       on (expr set) _ _ _ (expr_as _ set) (λ e.
-      on (expect (is_sign sign.RightBrace) e.1) _ _ _ (scan_sign sign.RightBrace stack e.1) (λ rest. refl))))))
+      on (expect (is_sign sign.RightBrace) e.1) _ _ _ (scan_test table (signs sign.RightBrace) stack e.1) (λ rest. refl))))))
 
   scan_opt : (stack : List Sym) (ts : List Token) → go (Fixed sign.LeftParen ∷ Spec d ∷ Fixed sign.RightParen ∷ stack) ts ≡ (opt_at spec ts >>= (λ r. go stack r.1))
   unfolding opt_at
   scan_opt stack ts =
-      on (expect (is_sign sign.LeftParen) ts) _ _ _ (scan_sign sign.LeftParen _ ts) (λ inside.
+      on (expect (is_sign sign.LeftParen) ts) _ _ _ (scan_test table (signs sign.LeftParen) _ ts) (λ inside.
       on (spec inside) _ _ _ (spec_as _ inside) (λ s.
-      on (expect (is_sign sign.RightParen) s.1) _ _ _ (scan_sign sign.RightParen stack s.1) (λ rest. refl)))
+      on (expect (is_sign sign.RightParen) s.1) _ _ _ (scan_test table (signs sign.RightParen) stack s.1) (λ rest. refl)))
 
   scan_pred : (stack : List Sym) (ts : List Token) → go (Fixed sign.LeftParen ∷ Part (Expr d) ∷ Fixed sign.RightParen ∷ stack) ts ≡ (pred_at expr ts >>= (λ r. go stack r.1))
   unfolding pred_at
   scan_pred stack ts =
-      on (expect (is_sign sign.LeftParen) ts) _ _ _ (scan_sign sign.LeftParen _ ts) (λ inside.
+      on (expect (is_sign sign.LeftParen) ts) _ _ _ (scan_test table (signs sign.LeftParen) _ ts) (λ inside.
       on (expr inside) _ _ _ (expr_as _ inside) (λ e.
-      on (expect (is_sign sign.RightParen) e.1) _ _ _ (scan_sign sign.RightParen stack e.1) (λ rest. refl)))
+      on (expect (is_sign sign.RightParen) e.1) _ _ _ (scan_test table (signs sign.RightParen) stack e.1) (λ rest. refl)))
 
   scan_call : (f : List ℕ) (stack : List Sym) (ts : List Token) → go (Fixed sign.LeftParen ∷ First Arg d ∷ stack) ts ≡ (call_at expr f ts >>= (λ r. go stack r.1))
   unfolding call_at
   scan_call f stack ts =
-      on (expect (is_sign sign.LeftParen) ts) _ _ _ (scan_sign sign.LeftParen _ ts) (λ inside.
+      on (expect (is_sign sign.LeftParen) ts) _ _ _ (scan_test table (signs sign.LeftParen) _ ts) (λ inside.
       on (listed_at expr inside) _ _ _ (scan_listed Arg d expr expr_as stack inside) (λ args. refl))
 
   -- one level
@@ -263,16 +259,16 @@ module _ (d : ℕ) (shape : Read ShapeTree) (shape_as : ShapeGoesAs d shape) whe
   unfolding param_at
   scan_param stack ts =
       on (name_at ts) _ _ _ (scan_name _ ts) (λ x.
-      on (expect (is_sign sign.Colon) x.1) _ _ _ (scan_sign sign.Colon _ x.1) (λ typed.
+      on (expect (is_sign sign.Colon) x.1) _ _ _ (scan_test table (signs sign.Colon) _ x.1) (λ typed.
       on (shape typed) _ _ _ (shape_as _ typed) (λ s. refl)))
 
   scan_def : (spec : ReadSpec) (spec_as : GoesAs d spec) (stack : List Sym) (ts : List Token) → go (Name ∷ Fixed sign.LeftParen ∷ First Param d ∷ Fixed sign.Equal ∷ Spec d ∷ stack) ts ≡ (def_at shape spec ts >>= (λ r. go stack r.1))
   unfolding def_at
   scan_def spec spec_as stack ts =
       on (name_at ts) _ _ _ (scan_name _ ts) (λ f.
-      on (expect (is_sign sign.LeftParen) f.1) _ _ _ (scan_sign sign.LeftParen _ f.1) (λ inside.
+      on (expect (is_sign sign.LeftParen) f.1) _ _ _ (scan_test table (signs sign.LeftParen) _ f.1) (λ inside.
       on (listed_at (param_at shape) inside) _ _ _ (scan_listed Param d (param_at shape) scan_param _ inside) (λ ps.
-      on (expect (is_sign sign.Equal) ps.1) _ _ _ (scan_sign sign.Equal _ ps.1) (λ body.
+      on (expect (is_sign sign.Equal) ps.1) _ _ _ (scan_test table (signs sign.Equal) _ ps.1) (λ body.
       on (spec body) _ _ _ (spec_as stack body) (λ s. refl)))))
 
 def_deep : (d : ℕ) (stack : List Sym) (ts : List Token) (b : Bool) (n : ℕ) → scan_from table (def_stack d b) true n (λ more. go (more ++ stack) ts) ≡ ((cond b (Ok ts) (Err (Unexpected n)) >>= (λ rest. let r : Result (DefTree × List Token) Stuck = Err (TooNested n) in r)) >>= (λ r. go stack r.1))

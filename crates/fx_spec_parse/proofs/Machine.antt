@@ -22,7 +22,8 @@ use Rattle.fx_parse.proofs.ExprMachine.{Expr, expr_runs}
 use Rattle.fx_parse.proofs.ShapeMachine as shape
 use Rattle.fx_parse.proofs.ShapeMachine.{Shape, shape_runs}
 use Rattle.fx_parse.proofs.Signs.{sign_is, sign_again, names}
-use Rattle.fx_parse.proofs.Steps.{passed, Run, ran, takes, goes}
+use Rattle.fx_parse.proofs.Steps.{Run, ran, takes, goes}
+use Rattle.fx_parse.proofs.Tests.{passed}
 use Rattle.fx_parse.proofs.Within.{lifted, Holds, run_within}
 use Rattle.fx_spec.specs.Written.{WrittenTree, DefTree, TextTree}
 use Rattle.fx_grammar.specs.Tokens.{listed, spec_tokens, param_tokens, def_tokens, text_tokens, spec_names, param_names, def_names, text_names}

@@ -24,7 +24,8 @@ use Rattle.fx_parse.proofs.ExprMachine.{Expr, keyword_spelled, expr_fits}
 use Rattle.fx_parse.proofs.ShapeMachine as shape
 use Rattle.fx_parse.proofs.ShapeMachine.{Shape, shape_fits}
 use Rattle.fx_parse.proofs.Signs.{sign_is, names, name_is}
-use Rattle.fx_parse.proofs.Steps.{passed, ran, takes}
+use Rattle.fx_parse.proofs.Steps.{ran, takes}
+use Rattle.fx_parse.proofs.Tests.{passed, passed_step}
 use Rattle.fx_parse.proofs.Within.{run_within, Over, part_step}
 use Rattle.fx_spec.specs.Written.{WrittenTree, DefTree, TextTree}
 use Rattle.fx_grammar.specs.Tokens.{listed, spec_tokens, param_tokens, def_tokens, text_tokens, spec_names, param_names, def_names, text_names}
@@ -333,15 +334,9 @@ param_of d ts r =
       spelled = n.parts ∙ ap (λ l. token.Word n.name ∷ l) (b.parts ∙ ap (λ l. token.Mark mark.Colon ∷ l) (s.parts ∙ ap (λ l. shape_tokens s.tree ++ l) (empty s.reads) ∙ append-nil (shape_tokens s.tree)));
     }
 
-passed_step : (b : Bool) (more : List Sym) (ts : List Token) → passed b ≡ Some more → All more ts → (b ≡ true) × (ts ≡ [])
-passed_step true more ts e r =
-    let none : [] ≡ more = cc in
-    (refl, subst (λ m. All m ts) (sym none) r)
-passed_step false more ts e r = absurd cc
-
 name_step : (x : Token) (more : List Sym) (ts : List Token) → passed (names x) ≡ Some more → All more ts → Means Name (x ∷ ts)
 name_step x more ts e r =
-    let p = passed_step (names x) more ts e r in
+    let p = passed_step (λ m. All m ts) (names x) more e r in
     let n = name_is x p.0 in
     (n.0, n.1, ap (λ l. x ∷ l) p.1 ∙ ap (λ y. y ∷ []) n.2)
 
@@ -405,7 +400,7 @@ step (Spec d) x more ts e r = spec_step d x (start_of x) more ts (start_spells x
 step (Part s) x more ts e r = part_step inner.table table Part holds Means (λ s ts over. over) s x more ts e r
 step (Shaped s) x more ts e r = part_step shape.table table Shaped shape_holds Means (λ s ts over. over) s x more ts e r
 step Name x more ts e r = name_step x more ts e r
-step (Fixed s) x more ts e r = let p = passed_step (is_sign s x) more ts e r in ap (λ l. x ∷ l) p.1 ∙ ap (λ y. y ∷ []) (sign_is s x p.0)
+step (Fixed s) x more ts e r = let p = passed_step (λ m. All m ts) (is_sign s x) more e r in ap (λ l. x ∷ l) p.1 ∙ ap (λ y. y ∷ []) (sign_is s x p.0)
 
 a_word : is_name (95 ∷ []) ≡ true
 a_word = refl

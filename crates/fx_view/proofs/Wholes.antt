@@ -19,6 +19,7 @@ use Rattle.fx_view.specs.ReadList.{ReadList}
 use Rattle.fx_view.specs.Reads.{read_at, known_of, Agrees}
 use Rattle.fx_view.specs.Wholes.{AreOf}
 use Rattle.fx_view.proofs.Calls.{went_by}
+use Rattle.fx_view.proofs.Lists.{read_more_cases}
 use Rattle.fx_view.proofs.Rules.{found_answer}
 
 abbrev Path : Type 0
@@ -26,19 +27,6 @@ Path = List (List ℕ)
 
 abbrev Read : Type 0
 Read = Option Node × ℕ
-
--- a read is one of those before, or the new one
-pub read_more_cases : (reads : ReadList) (path : Path) (read : Read) (q : Path) (r : Read) → read_at (reads ++ (path, read) ∷ []) q ≡ Some r → (read_at reads q ≡ Some r) ⊎ ((q ≡ path) × (read ≡ r))
-read_more_cases [] path read q r e = go (eq_by_cmp path_cmp q path) refl e
-  where
-    go : (b : Bool) → eq_by_cmp path_cmp q path ≡ b → cond b (Some read) None ≡ Some r → (read_at [] q ≡ Some r) ⊎ ((q ≡ path) × (read ≡ r))
-    go true is e = inr (path_eq_same q path is, same_Some read r e)
-    go false is e = absurd (none-some r e)
-read_more_cases (x ∷ xs) path read q r e = go (eq_by_cmp path_cmp q x.0) e (read_more_cases xs path read q r)
-  where
-    go : (b : Bool) → cond b (Some x.1) (read_at (xs ++ (path, read) ∷ []) q) ≡ Some r → (read_at (xs ++ (path, read) ∷ []) q ≡ Some r → (read_at xs q ≡ Some r) ⊎ ((q ≡ path) × (read ≡ r))) → (cond b (Some x.1) (read_at xs q) ≡ Some r) ⊎ ((q ≡ path) × (read ≡ r))
-    go true e rest = inl e
-    go false e rest = rest e
 
 pub of_none : (S : Store) → AreOf S []
 of_none S path found position e = absurd (none-some (found, position) e)

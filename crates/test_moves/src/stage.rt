@@ -67,17 +67,23 @@ fn description_text(case: &str) -> &str {
 }
 
 /// The description of a file where one stands.
-fn file_alone(alloc: Global) -> Checked {
-    Checked::of(Description {
-        defs: Defs::new(alloc),
-        root: Spec::File,
-    })
+fn file_alone(alloc: Global) -> Result<Checked, NoMemory> {
+    Checked::of(
+        alloc,
+        Description {
+            defs: Defs::new(alloc),
+            root: Spec::File,
+        },
+    )
 }
 
 /// The description of a text; that of a file where it is refused.
-fn described(alloc: Global, text: &[u8]) -> Checked {
+fn described(alloc: Global, text: &[u8]) -> Result<Checked, NoMemory> {
     match parse(alloc, text) {
-        Ok(description) => check(alloc, description).unwrap_or(file_alone(alloc)),
+        Ok(description) => match check(alloc, description) {
+            Ok(checked) => Ok(checked),
+            Err(_) => file_alone(alloc),
+        },
         Err(_) => file_alone(alloc),
     }
 }
@@ -87,7 +93,7 @@ pub fn base_of(alloc: Global, case: &str) -> Result<Base, NoMemory> {
     let text = unescaped(alloc, description_text(case))?;
     let loaded = store_of(alloc, case)?;
     Ok(Base {
-        description: described(alloc, &text),
+        description: described(alloc, &text)?,
         plan: Plan::new(alloc),
         loaded,
     })

@@ -67,18 +67,21 @@ fn store_of(alloc: Global, ground: &Ground) -> Result<Filestore, NoMemory> {
 }
 
 /// The description of a file where one stands.
-fn file_alone(alloc: Global) -> Checked {
-    Checked::of(Description {
-        defs: Defs::new(alloc),
-        root: Spec::File,
-    })
+fn file_alone(alloc: Global) -> Result<Checked, NoMemory> {
+    Checked::of(
+        alloc,
+        Description {
+            defs: Defs::new(alloc),
+            root: Spec::File,
+        },
+    )
 }
 
 /// The description of a text, and that of a file where it is refused.
-fn description_of(alloc: Global, text: &str) -> Checked {
+fn description_of(alloc: Global, text: &str) -> Result<Checked, NoMemory> {
     match parse(alloc, text.as_bytes()) {
         Ok(description) => match check(alloc, description) {
-            Ok(checked) => checked,
+            Ok(checked) => Ok(checked),
             Err(_) => file_alone(alloc),
         },
         Err(_) => file_alone(alloc),
@@ -113,16 +116,9 @@ fn plan_of(alloc: Global, texts: &[&str]) -> Result<Plan, SourceFault> {
 
 /// What a run of a plan begins with.
 fn gathered(alloc: Global, ground: &Ground, plan: Plan) -> Result<Arc<Base>, NoMemory> {
-    match store_of(alloc, ground) {
-        Ok(loaded) => {
-            let description = description_of(alloc, ground.description);
-            Base::shared(alloc, description, plan, loaded)
-        }
-        Err(fault) => {
-            plan.let_go();
-            Err(fault)
-        }
-    }
+    let loaded = store_of(alloc, ground)?;
+    let description = description_of(alloc, ground.description)?;
+    Base::shared(alloc, description, plan, loaded)
 }
 
 /// What a run of scripts begins with. A script that is refused refuses the whole; a description that is refused stands for

@@ -3,4 +3,4 @@ use Rattle.fx_spec.specs.TextViews.{written}
 use Rattle.fx_spec.proofs.checked.Checked.spec.Goals as goal
 
 pub returns : goal.returns
-returns c = (written c.self.inside.description, record { checked = c.self.invariant; means = c.self.view_is }, refl)
+returns c = (written c.self.inside.description.value, record { checked = c.self.invariant; means = c.self.view_is }, refl)
