@@ -2,21 +2,20 @@
 -- entry is the last that changed it.
 use Rattle.std.proofs.Common.{◌≡◌, ◌⊎◌, inl, inr, ⊎_elim, ℕ, zero, suc, ◌<◌, ◌≤◌, Bool, true, false, cond, List, [], ◌∷◌, ◌++◌, length, Option, Some, None, refl, sym, ◌∙◌, ap, subst, arith, append_assoc}
 use Rattle.std.specs.Prelude.{IsTrue}
-use Rattle.std.specs.FinMap.{get}
 use Rattle.std.specs.declared.cmp.Ordering.{Ordering}
 use Rattle.std.specs.declared.cmp.Ordering.TheVariants.{Less, Equal, Greater}
 use Rattle.std.specs.Ordering.{is_le, is_gt, ordering_reverse, eq_by_cmp}
-use Rattle.std.proofs.lemmas.Bool.{false≢true, cases_lt, not-true, not-false}
+use Rattle.std.proofs.lemmas.Bool.{false≢true, cases_lt}
 use Rattle.std.proofs.lemmas.Cmp.{upto, tied_itself}
 use Rattle.std.proofs.lemmas.Option.{none-some, same_Some}
 use Rattle.fx_store.specs.Names.{path_cmp}
 use Rattle.fx_store.specs.Orders.{path_total, path_eq_same}
 use Rattle.fx_spec.specs.Plans.{Turn}
-use Rattle.fx_spec.specs.Order.{BaseTree, state, Changes}
+use Rattle.fx_spec.specs.Order.{BaseTree, Changes}
 use Rattle.fx_machine.specs.declared.event.Event.{Event}
 use Rattle.fx_machine.specs.Machine.{Machine, Look, Run, position_at, IsStaleAt}
-use Rattle.fx_machine.specs.Measure.{same_node, changes_at}
-use Rattle.fx_machine.proofs.Stale.{same_is, same_itself}
+use Rattle.fx_machine.specs.Measure.{changes_at}
+use Rattle.fx_machine.proofs.Stale.{changes_found, found_changes}
 use Rattle.fx_board.proofs.Indexes.{changes_within}
 use Rattle.fx_sched.specs.Named.{IsNamedAt, NameConflicts}
 
@@ -52,109 +51,101 @@ last_below test (suc n) = by (test n) refl (last_below test n)
 
 -- ---- the last entry that changed a looked path
 
-module _ (base : BaseTree) (o : List Turn) where
-  changed : (i : ℕ) (path : Path) → changes_at base o i path ≡ true → Changes base o i path
-  changed i path passes same =
-      false≢true (sym (not-true (same_node (get (state base o i) path) (get (state base o (suc i)) path)) passes) ∙ subst (λ after. same_node (get (state base o i) path) after ≡ true) same (same_itself (get (state base o i) path)))
+module _ (base : BaseTree) (o : List Turn) (looks : List Look) where
+  -- the entry changed the path at or after its look, and no later one did
+  record IsLastAt (entry : ℕ) (path : Path) : Type 0 where
+    stale : IsStaleAt base o looks entry path
+    last : (later : ℕ) → entry < later → Changes base o later path → ⊥
 
-  unchanged : (i : ℕ) (path : Path) → changes_at base o i path ≡ false → Changes base o i path → ⊥
-  unchanged i path fails changes = changes (same_is (get (state base o i) path) (get (state base o (suc i)) path) (not-false (same_node (get (state base o i) path) (get (state base o (suc i)) path)) fails))
+  abbrev WasChanged : Path → Type 0
+  WasChanged path = (entry : ℕ) × IsLastAt entry path
 
-  module _ (looks : List Look) where
-    -- the entry changed the path at or after its look, and no later one did
-    record IsLastAt (entry : ℕ) (path : Path) : Type 0 where
-      stale : IsStaleAt base o looks entry path
-      last : (later : ℕ) → entry < later → Changes base o later path → ⊥
+  abbrev WasKept : Path → Type 0
+  WasKept path = (entry : ℕ) → IsStaleAt base o looks entry path → ⊥
 
-    abbrev WasChanged : Path → Type 0
-    WasChanged path = (entry : ℕ) × IsLastAt entry path
+  since : (path : Path) (i : ℕ) → position_at looks path ≡ Some i → HasLastOrNone (λ k. changes_at base o k path) (length o) → WasChanged path ⊎ WasKept path
+  since path i at (inl (last, found)) =
+      ⊎_elim
+      (λ (before : last < i). inr (λ entry stale.
+      let same : i ≡ stale.0 = same_Some i stale.0 (sym at ∙ stale.1) in
+      let from : stale.0 ≤ entry = stale.2 in
+      false≢true (sym (found.later entry (omega (arith, before, same, from)) stale.3) ∙ changes_found base o entry path stale.4)))
+      (λ (from : i ≤ last). inl (
+        last,
+        record {
+          stale = (i, at, from, found.below, found_changes base o last path found.passes);
+          last = λ later after changes. false≢true (sym (found.later later after (changes_within base o later path changes)) ∙ changes_found base o later path changes);
+        },
+      ))
+      (cases_lt last i)
+  since path i at (inr none) = inr (λ entry stale. false≢true (sym (none entry stale.3) ∙ changes_found base o entry path stale.4))
 
-    abbrev WasKept : Path → Type 0
-    WasKept path = (entry : ℕ) → IsStaleAt base o looks entry path → ⊥
+  -- whether a path was changed at or after its look
+  changed_since : (path : Path) → WasChanged path ⊎ WasKept path
+  changed_since path = by (position_at looks path) refl
+    where
+      by : (r : Option ℕ) → position_at looks path ≡ r → WasChanged path ⊎ WasKept path
+      by None at = inr (λ entry stale. none-some stale.0 (sym at ∙ stale.1))
+      by (Some i) at = since path i at (last_below (λ k. changes_at base o k path) (length o))
 
-    since : (path : Path) (i : ℕ) → position_at looks path ≡ Some i → HasLastOrNone (λ k. changes_at base o k path) (length o) → WasChanged path ⊎ WasKept path
-    since path i at (inl (last, found)) =
-        ⊎_elim
-        (λ (before : last < i). inr (λ entry stale.
-        let same : i ≡ stale.0 = same_Some i stale.0 (sym at ∙ stale.1) in
-        let from : stale.0 ≤ entry = stale.2 in
-        unchanged entry path (found.later entry (omega (arith, before, same, from)) stale.3) stale.4))
-        (λ (from : i ≤ last). inl (
-          last,
-          record {
-            stale = (i, at, from, found.below, changed last path found.passes);
-            last = λ later after changes. unchanged later path (found.later later after (changes_within base o later path changes)) changes;
-          },
-        ))
-        (cases_lt last i)
-    since path i at (inr none) = inr (λ entry stale. unchanged entry path (none entry stale.3) stale.4)
+  -- ---- the least of the looked paths that were changed
 
-    -- whether a path was changed at or after its look
-    changed_since : (path : Path) → WasChanged path ⊎ WasKept path
-    changed_since path = by (position_at looks path) refl
-      where
-        by : (r : Option ℕ) → position_at looks path ≡ r → WasChanged path ⊎ WasKept path
-        by None at = inr (λ entry stale. none-some stale.0 (sym at ∙ stale.1))
-        by (Some i) at = since path i at (last_below (λ k. changes_at base o k path) (length o))
+  abbrev IsUpTo : Path → Path → Type 0
+  IsUpTo p q = is_gt (path_cmp p q) ≡ false
 
-    -- ---- the least of the looked paths that were changed
+  -- of these looks, and of this path
+  record HasLeast (ls : List Look) (than : Path) : Type 0 where
+    path : Path
+    entry : ℕ
+    is : IsLastAt entry path
+    below : IsUpTo path than
+    least : (p : Path) (i : ℕ) → position_at ls p ≡ Some i → (e : ℕ) → IsStaleAt base o looks e p → IsUpTo path p
 
-    abbrev IsUpTo : Path → Path → Type 0
-    IsUpTo p q = is_gt (path_cmp p q) ≡ false
+  with_look : (l : Look) (ls : List Look) (than : Path) (rest : HasLeast ls than) → ((e : ℕ) → IsStaleAt base o looks e l.0 → IsUpTo rest.path l.0) → HasLeast (l ∷ ls) than
+  with_look l ls than rest here = record { path = rest.path; entry = rest.entry; is = rest.is; below = rest.below; least = λ p i at e stale. by p i e stale (eq_by_cmp path_cmp p l.0) refl at }
+    where
+      by : (p : Path) (i e : ℕ) → IsStaleAt base o looks e p → (b : Bool) → eq_by_cmp path_cmp p l.0 ≡ b → cond b (Some l.1) (position_at ls p) ≡ Some i → IsUpTo rest.path p
+      by p i e stale true is at = let same : p ≡ l.0 = path_eq_same p l.0 is in subst (IsUpTo rest.path) (sym same) (here e (subst (IsStaleAt base o looks e) same stale))
+      by p i e stale false is at = rest.least p i at e stale
 
-    -- of these looks, and of this path
-    record HasLeast (ls : List Look) (than : Path) : Type 0 where
-      path : Path
-      entry : ℕ
-      is : IsLastAt entry path
-      below : IsUpTo path than
-      least : (p : Path) (i : ℕ) → position_at ls p ≡ Some i → (e : ℕ) → IsStaleAt base o looks e p → IsUpTo path p
+  -- what is above another path is not below it
+  not_above : (r : Ordering) → is_gt r ≡ true → is_gt (ordering_reverse r) ≡ false
+  not_above Less above = absurd (false≢true above)
+  not_above Equal above = refl
+  not_above Greater above = refl
 
-    with_look : (l : Look) (ls : List Look) (than : Path) (rest : HasLeast ls than) → ((e : ℕ) → IsStaleAt base o looks e l.0 → IsUpTo rest.path l.0) → HasLeast (l ∷ ls) than
-    with_look l ls than rest here = record { path = rest.path; entry = rest.entry; is = rest.is; below = rest.below; least = λ p i at e stale. by p i e stale (eq_by_cmp path_cmp p l.0) refl at }
-      where
-        by : (p : Path) (i e : ℕ) → IsStaleAt base o looks e p → (b : Bool) → eq_by_cmp path_cmp p l.0 ≡ b → cond b (Some l.1) (position_at ls p) ≡ Some i → IsUpTo rest.path p
-        by p i e stale true is at = let same : p ≡ l.0 = path_eq_same p l.0 is in subst (IsUpTo rest.path) (sym same) (here e (subst (IsStaleAt base o looks e) same stale))
-        by p i e stale false is at = rest.least p i at e stale
+  abbrev below_both : (ls : List Look) (than path : Path) → IsUpTo path than → HasLeast ls path → HasLeast ls than
+  below_both ls than path under rest = record { path = rest.path; entry = rest.entry; is = rest.is; below = upto path_total rest.path path than rest.below under; least = rest.least }
 
-    -- what is above another path is not below it
-    not_above : (r : Ordering) → is_gt r ≡ true → is_gt (ordering_reverse r) ≡ false
-    not_above Less above = absurd (false≢true above)
-    not_above Equal above = refl
-    not_above Greater above = refl
+  one_more : (l : Look) (ls : List Look) (than : Path) (entry : ℕ) → IsLastAt entry than → ((p : Path) (e : ℕ) → IsLastAt e p → HasLeast ls p) → HasLeast (l ∷ ls) than
+  one_more l ls than entry is rest = by (changed_since l.0)
+    where
+      compared : (e : ℕ) → IsLastAt e l.0 → (b : Bool) → is_gt (path_cmp than l.0) ≡ b → HasLeast (l ∷ ls) than
+      compared e found true above =
+          let lower = rest l.0 e found in
+          let under : IsUpTo l.0 than = ap is_gt (path_total.antisymm l.0 than) ∙ not_above (path_cmp than l.0) above in
+          with_look l ls than (below_both ls than l.0 under lower) (λ _ _. lower.below)
+      compared e found false under = let same = rest than entry is in with_look l ls than same (λ _ _. upto path_total same.path than l.0 same.below under)
 
-    abbrev below_both : (ls : List Look) (than path : Path) → IsUpTo path than → HasLeast ls path → HasLeast ls than
-    below_both ls than path under rest = record { path = rest.path; entry = rest.entry; is = rest.is; below = upto path_total rest.path path than rest.below under; least = rest.least }
+      by : WasChanged l.0 ⊎ WasKept l.0 → HasLeast (l ∷ ls) than
+      by (inl (e, found)) = compared e found (is_gt (path_cmp than l.0)) refl
+      by (inr kept) = with_look l ls than (rest than entry is) (λ e stale. absurd (kept e stale))
 
-    one_more : (l : Look) (ls : List Look) (than : Path) (entry : ℕ) → IsLastAt entry than → ((p : Path) (e : ℕ) → IsLastAt e p → HasLeast ls p) → HasLeast (l ∷ ls) than
-    one_more l ls than entry is rest = by (changed_since l.0)
-      where
-        compared : (e : ℕ) → IsLastAt e l.0 → (b : Bool) → is_gt (path_cmp than l.0) ≡ b → HasLeast (l ∷ ls) than
-        compared e found true above =
-            let lower = rest l.0 e found in
-            let under : IsUpTo l.0 than = ap is_gt (path_total.antisymm l.0 than) ∙ not_above (path_cmp than l.0) above in
-            with_look l ls than (below_both ls than l.0 under lower) (λ _ _. lower.below)
-        compared e found false under = let same = rest than entry is in with_look l ls than same (λ _ _. upto path_total same.path than l.0 same.below under)
+  least_of : (ls : List Look) (than : Path) (entry : ℕ) → IsLastAt entry than → HasLeast ls than
+  least_of [] than entry is = record { path = than; entry = entry; is = is; below = ap is_gt (tied_itself path_total than); least = λ p i at e stale. absurd (none-some i at) }
+  least_of (l ∷ ls) than entry is = one_more l ls than entry is (λ p e found. least_of ls p e found)
 
-        by : WasChanged l.0 ⊎ WasKept l.0 → HasLeast (l ∷ ls) than
-        by (inl (e, found)) = compared e found (is_gt (path_cmp than l.0)) refl
-        by (inr kept) = with_look l ls than (rest than entry is) (λ e stale. absurd (kept e stale))
+  up_to : (r : Ordering) → is_gt r ≡ false → IsTrue (is_le r)
+  up_to Less under = refl
+  up_to Equal under = refl
+  up_to Greater under = absurd (false≢true (sym under))
 
-    least_of : (ls : List Look) (than : Path) (entry : ℕ) → IsLastAt entry than → HasLeast ls than
-    least_of [] than entry is = record { path = than; entry = entry; is = is; below = ap is_gt (tied_itself path_total than); least = λ p i at e stale. absurd (none-some i at) }
-    least_of (l ∷ ls) than entry is = one_more l ls than entry is (λ p e found. least_of ls p e found)
-
-    up_to : (r : Ordering) → is_gt r ≡ false → IsTrue (is_le r)
-    up_to Less under = refl
-    up_to Equal under = refl
-    up_to Greater under = absurd (false≢true (sym under))
-
-    -- so where an entry changed a looked path at or after its look, some entry and path can be named
-    pub can_name : (entry : ℕ) (path : Path) → IsStaleAt base o looks entry path → (e : ℕ) × (p : Path) × IsNamedAt base o looks e p
-    can_name entry path stale = by (changed_since path)
-      where
-        by : WasChanged path ⊎ WasKept path → (e : ℕ) × (p : Path) × IsNamedAt base o looks e p
-        by (inl (last, found)) =
-            let least = least_of looks path last found in
-            (least.entry, least.path, record { stale = least.is.stale; last = least.is.last; least = λ e p s. up_to (path_cmp least.path p) (least.least p s.0 s.1 e s) })
-        by (inr kept) = absurd (kept entry stale)
+  -- so where an entry changed a looked path at or after its look, some entry and path can be named
+  pub can_name : (entry : ℕ) (path : Path) → IsStaleAt base o looks entry path → (e : ℕ) × (p : Path) × IsNamedAt base o looks e p
+  can_name entry path stale = by (changed_since path)
+    where
+      by : WasChanged path ⊎ WasKept path → (e : ℕ) × (p : Path) × IsNamedAt base o looks e p
+      by (inl (last, found)) =
+          let least = least_of looks path last found in
+          (least.entry, least.path, record { stale = least.is.stale; last = least.is.last; least = λ e p s. up_to (path_cmp least.path p) (least.least p s.0 s.1 e s) })
+      by (inr kept) = absurd (kept entry stale)

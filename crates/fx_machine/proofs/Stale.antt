@@ -76,7 +76,8 @@ same_itself (Some (File a exec)) = and_from (bytes_eq a a) (same_flag exec exec)
 same_itself (Some (Dir a)) = (slice_eq-Decides bytes_eq-Decides a a (same_node (Some (Dir a)) (Some (Dir a))) refl).1 refl
 same_itself (Some (Link a)) = (bytes_eq-Decides a a).1 refl
 
-changes_found : (base : BaseTree) (o : List Turn) (i : ℕ) (path : List (List ℕ)) → Changes base o i path → changes_at base o i path ≡ true
+-- the test of a change passes exactly where an entry changes what stands at the path
+pub changes_found : (base : BaseTree) (o : List Turn) (i : ℕ) (path : List (List ℕ)) → Changes base o i path → changes_at base o i path ≡ true
 changes_found base o i path changed =
     not_from_false _ (false_from_ne_true _ (λ same. changed (same_is (get (state base o i) path) (get (state base o (suc i)) path) same)))
 
@@ -115,7 +116,7 @@ any_below test (suc n) e = ⊎_elim
     last true h = refl
     last false h = h
 
-found_changes : (base : BaseTree) (o : List Turn) (i : ℕ) (path : List (List ℕ)) → changes_at base o i path ≡ true → Changes base o i path
+pub found_changes : (base : BaseTree) (o : List Turn) (i : ℕ) (path : List (List ℕ)) → changes_at base o i path ≡ true → Changes base o i path
 found_changes base o i path found same =
     false≢true (sym (not-true (same_node (get (state base o i) path) (get (state base o (suc i)) path)) found) ∙ subst (λ after. same_node (get (state base o i) path) after ≡ true) same (same_itself (get (state base o i) path)))
 
