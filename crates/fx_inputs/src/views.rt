@@ -5,17 +5,16 @@ ghost use Rattle.fx_outside.specs.Host.{ReadsOnly};
 ghost use Rattle.fx_spec.specs.Bases.{base_tree};
 ghost use Rattle.fx_spec.specs.WellShaped.{IsScript};
 ghost use Rattle.fx_words.specs.JobOf.{asked_views, IsViewsJob};
-ghost use Rattle.fx_source.specs.Described.{Describes};
-ghost use Rattle.fx_inputs.specs.Inputs.{HasSpec, HasSomeSpec, HasEachScript};
+ghost use Rattle.fx_inputs.specs.Inputs.{HasSomeSpec, HasEachScript};
 ghost use Rattle.fx_inputs.specs.Views.{HasBases, HasViewsAlone, IsBeside, ViewsInputsAsk, ViewsReadRow};
 
 use crate::reading::read_rest;
 use crate::scripts::read_script_at;
-use fx_base::{NoMemory, SOURCE_LIMIT};
-use fx_command::{Status, read_text};
+use fx_base::NoMemory;
+use fx_command::Status;
 use fx_outside::Host;
-use fx_source::{SPEC_WORD, SourceFault, description_of};
-use fx_spec::{Base, Checked, Plan, Script};
+use fx_source::read_description;
+use fx_spec::{Base, Plan, Script};
 use fx_words::ViewsJob;
 use std::alloc::Global;
 use std::sync::Arc;
@@ -37,27 +36,6 @@ impl Bases {
         let Bases { scripts, views } = self;
         Base::let_go(scripts);
         Base::let_go(views);
-    }
-}
-
-/// Reads the description, and keeps its text.
-fn read_description<H: Host>(
-    alloc: Global,
-    job: &ViewsJob,
-    host: &mut H,
-) -> Result<(Checked, Vec<u8>), Status>
-    ensures read { IfOk result (λ r. IfSome (H.view host.old).told
-        (λ t. HasSpec t (asked_views job.now).inputs r.0)) }
-    ensures text { IfOk result (λ r. Describes r.1.items r.0) }
-    ensures same { ReadsOnly (H.view host.old) (H.view host.new) }
-    ensures fit { ViewsInputsAsk (asked_views job.now) (H.view host.old) (H.view host.new) }
-    ensures ends { IfErr result
-        (ViewsReadRow (asked_views job.now) (H.view host.old) (H.view host.new)) }
-{
-    let text = read_text(alloc, host, job.inputs.spec, SOURCE_LIMIT as u64)?;
-    match description_of(alloc, &text) {
-        Ok(spec) => Ok((spec, text)),
-        Err(fault) => Err(fault.at(SPEC_WORD)),
     }
 }
 
@@ -93,32 +71,14 @@ fn read_views<H: Host>(alloc: Global, job: &ViewsJob, host: &mut H) -> Result<Pl
     Ok(plan)
 }
 
-/// The description of a run that is read, once more from its text.
-fn description_again(alloc: Global, scripts: &Arc<Base>, text: &[u8]) -> Result<Checked, NoMemory>
-    requires { Describes text.now scripts.now.value.description }
-    ensures { IfOk result (λ spec. spec ≡ scripts.now.value.description) }
-{
-    match description_of(alloc, text) {
-        Ok(spec) => Ok(spec),
-        Err(SourceFault::Refused(_)) => unreachable!(),
-        Err(SourceFault::NoMemory) => Err(NoMemory),
-    }
-}
-
-/// The views beside a run that is read, whose description has this text.
-fn beside(
-    alloc: Global,
-    scripts: &Arc<Base>,
-    text: &[u8],
-    views: Plan,
-) -> Result<Arc<Base>, NoMemory>
-    requires { Describes text.now scripts.now.value.description }
+/// The views beside a run that is read, by the description that the run has.
+fn beside(alloc: Global, scripts: &Arc<Base>, views: Plan) -> Result<Arc<Base>, NoMemory>
     ensures plan { IfOk result (λ base. base.value.plan ≡ views) }
     ensures description { IfOk result
         (λ base. base.value.description ≡ scripts.now.value.description) }
     ensures loaded { IfOk result (λ base. base.value.loaded.nodes ≡ scripts.now.value.loaded.nodes) }
 {
-    let description = match description_again(alloc, scripts, text) {
+    let description = match scripts.description.copy() {
         Ok(description) => description,
         Err(fault) => {
             views.let_go();
@@ -157,7 +117,7 @@ pub fn read_bases<R: Threads, H: Host>(
     ensures ends { IfErr result
         (ViewsReadRow (asked_views job.now) (H.view host.old) (H.view host.new)) }
 {
-    let (description, text) = read_description(alloc, job, host)?;
+    let description = read_description(alloc, job.inputs.spec, host)?;
     let plan = match read_views(alloc, job, host) {
         Ok(plan) => plan,
         Err(status) => {
@@ -172,7 +132,7 @@ pub fn read_bases<R: Threads, H: Host>(
             return Err(status);
         }
     };
-    match beside(alloc, &scripts, &text, plan) {
+    match beside(alloc, &scripts, plan) {
         Ok(views) => Ok(Bases { scripts, views }),
         Err(_) => {
             Base::let_go(scripts);

@@ -55,8 +55,8 @@ impl Checked {
         Ok(Checked { description })
     }
 
-    /// The same description, shared.
-    pub fn share(&self) -> Result<Checked, NoMemory>
+    /// An equal description: both share what is written.
+    pub fn copy(&self) -> Result<Checked, NoMemory>
         ensures { IfOk result (λ checked. checked ≡ self.now) }
     {
         let description = Arc::try_clone(&self.description)?;

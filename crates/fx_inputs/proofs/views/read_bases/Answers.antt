@@ -1,15 +1,22 @@
-use Rattle.std.proofs.Common.{sym, subst}
+use Rattle.fx_base.proofs.Errors.{if_err_of}
 use Rattle.fx_outside.proofs.Views.{reads_then}
 use Rattle.fx_spec.specs.Bases.{base_tree}
 use Rattle.fx_words.specs.JobOf.{asked_views}
-use Rattle.fx_source.specs.Described.{Describes}
 use Rattle.fx_inputs.specs.Inputs.{HasSpec}
 use Rattle.fx_inputs.proofs.Stages.{some_spec, then_told}
-use Rattle.fx_inputs.proofs.ViewsRows.{after_views, some_views, views_row_back, whole_bases}
+use Rattle.fx_inputs.proofs.ViewsRows.{spec_unread, after_views, some_views, views_row_back, whole_bases}
 use Rattle.fx_outside.specs.Host.{Guard}
 use Rattle.fx_outside.proofs.Views.{asks_both}
-use Rattle.fx_inputs.specs.Views.{LetsViews}
+use Rattle.fx_inputs.specs.Views.{LetsViews, ViewsReadRow}
 use Rattle.fx_inputs.proofs.views.read_bases.Goals as goal
+
+pub returns-in_err-description-clause-ends : goal.returns-in_err-description-clause-ends
+returns-in_err-description-clause-ends g c =
+    let j = asked_views c.args.job.now in
+    let a = g.H.Host.view c.args.host.now in
+    let b = g.H.Host.view c.read_description.new.host in
+    let status = c.in_err-description.field-0.0 in
+    if_err_of (ViewsReadRow j a b) c.from_residual.result status c.from_residual.ensures.1 (spec_unread j a b status c.in_err-description.ensures.ends)
 
 pub read_views-requires : goal.read_views-requires
 read_views-requires g c =
@@ -49,17 +56,13 @@ returns-in-Ok-beside-clause-read g c =
     whole_bases (asked_views c.args.job.now) (base_tree c.in-Ok-read_rest.scripts.value) (base_tree c.in-Ok-beside.views.value) c.in-Ok.plan a b d c.in_ok-description.ensures.same c.in-Ok.ensures.same
     c.in-Ok-beside.ensures.plan c.in-Ok.ensures.read c.in-Ok-read_rest.ensures.read
 
-pub beside-requires : goal.beside-requires
-beside-requires g c =
-    subst (Describes c.deref.result.now) (sym c.in-Ok-read_rest.ensures.described) (subst (λ x. Describes x c.in_ok-description.description) (sym c.deref.ensures.value) c.in_ok-description.ensures.text)
-
 pub returns-in-Err-read_rest-clause-fit : goal.returns-in-Err-read_rest-clause-fit
 returns-in-Err-read_rest-clause-fit g c =
     let Lets : Guard → Type 0 = λ guard. LetsViews guard.may_read (asked_views c.args.job.now) in
     let a = g.H.Host.view c.args.host.now in
     let b = g.H.Host.view c.read_description.new.host in
     let d = g.H.Host.view c.read_views.new.host in
-    asks_both Lets a b (g.H.Host.view c.read_rest.new.host) c.in_ok-description.ensures.fit (asks_both Lets b d (g.H.Host.view c.read_rest.new.host) c.in-Ok.ensures.fit (λ lets. c.in-Err-read_rest.ensures.fit lets.inputs))
+    asks_both Lets a b (g.H.Host.view c.read_rest.new.host) (λ lets. c.in_ok-description.ensures.fit lets.inputs.spec) (asks_both Lets b d (g.H.Host.view c.read_rest.new.host) c.in-Ok.ensures.fit (λ lets. c.in-Err-read_rest.ensures.fit lets.inputs))
 
 pub returns-in-Ok-beside-clause-fit : goal.returns-in-Ok-beside-clause-fit
 returns-in-Ok-beside-clause-fit g c =
@@ -67,4 +70,4 @@ returns-in-Ok-beside-clause-fit g c =
     let a = g.H.Host.view c.args.host.now in
     let b = g.H.Host.view c.read_description.new.host in
     let d = g.H.Host.view c.read_views.new.host in
-    asks_both Lets a b (g.H.Host.view c.read_rest.new.host) c.in_ok-description.ensures.fit (asks_both Lets b d (g.H.Host.view c.read_rest.new.host) c.in-Ok.ensures.fit (λ lets. c.in-Ok-read_rest.ensures.fit lets.inputs))
+    asks_both Lets a b (g.H.Host.view c.read_rest.new.host) (λ lets. c.in_ok-description.ensures.fit lets.inputs.spec) (asks_both Lets b d (g.H.Host.view c.read_rest.new.host) c.in-Ok.ensures.fit (λ lets. c.in-Ok-read_rest.ensures.fit lets.inputs))
