@@ -31,9 +31,8 @@ asked_of f count (Some d) = cond (nat_eq count (length d.params)) (Ok d.params) 
 
 -- arguments, each of which is expected to have its parameter's shape; a call has the shape of a truth value
 abbrev pub checked_arguments : Scope → List ExprTree → List (List ℕ × ShapeTree) → OrFault ShapeTree
-checked_arguments scope [] params = Ok ShapeTree.bool
-checked_arguments scope (e ∷ es) [] = Ok ShapeTree.bool
 checked_arguments scope (e ∷ es) (p ∷ ps) = shaped_as scope p.1 e >>= λ _. checked_arguments scope es ps
+checked_arguments scope _ _ = Ok ShapeTree.bool
 
 abbrev pub checked : List DefTree → Scope → WrittenTree → OrFault ShapeTree
 checked defs scope WrittenTree.file = Ok ShapeTree.str

@@ -50,8 +50,7 @@ first_part BinOp.Less found = allowed (is_ordered found) found
 first_part BinOp.And found = needed ShapeTree.bool found
 first_part BinOp.Or found = needed ShapeTree.bool found
 first_part BinOp.Member found = needed ShapeTree.str found
-first_part BinOp.Union found = needed ShapeTree.names found
-first_part BinOp.Without found = needed ShapeTree.names found
+first_part _ found = needed ShapeTree.names found
 
 -- what its second part has to be, by the shape of the first
 abbrev pub second_needed : BinOp → ShapeTree → ShapeTree
@@ -62,21 +61,15 @@ second_needed BinOp.Equal first = first
 second_needed BinOp.Less first = first
 second_needed BinOp.And first = ShapeTree.bool
 second_needed BinOp.Or first = ShapeTree.bool
-second_needed BinOp.Member first = ShapeTree.names
-second_needed BinOp.Union first = ShapeTree.names
-second_needed BinOp.Without first = ShapeTree.names
+second_needed _ first = ShapeTree.names
 
 abbrev pub result_shape : BinOp → ShapeTree
 result_shape BinOp.Join = ShapeTree.str
 result_shape BinOp.Plus = ShapeTree.int
 result_shape BinOp.Minus = ShapeTree.int
-result_shape BinOp.Equal = ShapeTree.bool
-result_shape BinOp.Less = ShapeTree.bool
-result_shape BinOp.And = ShapeTree.bool
-result_shape BinOp.Or = ShapeTree.bool
-result_shape BinOp.Member = ShapeTree.bool
 result_shape BinOp.Union = ShapeTree.names
 result_shape BinOp.Without = ShapeTree.names
+result_shape _ = ShapeTree.bool
 
 abbrev pub is_pair : ShapeTree → Bool
 is_pair (ShapeTree.pair s t) = true

@@ -37,8 +37,7 @@ BinShape BinOp.Less u v s = IsOrdered u × (v ≡ u) × (s ≡ ShapeTree.bool)
 BinShape BinOp.And u v s = (u ≡ ShapeTree.bool) × (v ≡ ShapeTree.bool) × (s ≡ ShapeTree.bool)
 BinShape BinOp.Or u v s = (u ≡ ShapeTree.bool) × (v ≡ ShapeTree.bool) × (s ≡ ShapeTree.bool)
 BinShape BinOp.Member u v s = (u ≡ ShapeTree.str) × (v ≡ ShapeTree.names) × (s ≡ ShapeTree.bool)
-BinShape BinOp.Union u v s = (u ≡ ShapeTree.names) × (v ≡ ShapeTree.names) × (s ≡ ShapeTree.names)
-BinShape BinOp.Without u v s = (u ≡ ShapeTree.names) × (v ≡ ShapeTree.names) × (s ≡ ShapeTree.names)
+BinShape _ u v s = (u ≡ ShapeTree.names) × (v ≡ ShapeTree.names) × (s ≡ ShapeTree.names)
 
 -- an operator takes a value of shape u, and gives one of shape s
 abbrev pub UnShape : UnOp → ShapeTree → ShapeTree → Type 0

@@ -13,15 +13,13 @@ listed_levels levels (p ∷ ps) = levels p ++ flat_map (λ q. 0 ∷ levels q) ps
 
 -- each part of a form is a form of the next level
 abbrev pub spec_token_levels : ℕ → WrittenTree → List ℕ
-spec_token_levels d WrittenTree.file = d ∷ []
-spec_token_levels d WrittenTree.dir = d ∷ []
-spec_token_levels d WrittenTree.link = d ∷ []
 spec_token_levels d (WrittenTree.focus e s) = d ∷ (expr_levels (suc d) e ++ (0 ∷ (spec_token_levels (suc d) s ++ 0 ∷ [])))
 spec_token_levels d (WrittenTree.pair x a b) = d ∷ 0 ∷ 0 ∷ (spec_token_levels (suc d) a ++ (0 ∷ (spec_token_levels (suc d) b ++ 0 ∷ [])))
 spec_token_levels d (WrittenTree.comp s x e) = d ∷ (spec_token_levels (suc d) s ++ (0 ∷ 0 ∷ 0 ∷ (expr_levels (suc d) e ++ 0 ∷ [])))
 spec_token_levels d (WrittenTree.opt s) = d ∷ 0 ∷ (spec_token_levels (suc d) s ++ 0 ∷ [])
 spec_token_levels d (WrittenTree.pred e) = d ∷ 0 ∷ (expr_levels (suc d) e ++ 0 ∷ [])
 spec_token_levels d (WrittenTree.call f args) = d ∷ 0 ∷ (listed_levels (expr_levels (suc d)) args ++ 0 ∷ [])
+spec_token_levels d _ = d ∷ []
 
 abbrev pub param_token_levels : ℕ → List ℕ × ShapeTree → List ℕ
 param_token_levels d p = 0 ∷ 0 ∷ shape_levels d p.1

@@ -93,15 +93,13 @@ script_tokens txns = flat_map txn_tokens txns
 
 -- no name of the description is a kept word
 abbrev pub spec_names : WrittenTree → Bool
-spec_names WrittenTree.file = true
-spec_names WrittenTree.dir = true
-spec_names WrittenTree.link = true
 spec_names (WrittenTree.focus e s) = has_names e && spec_names s
 spec_names (WrittenTree.pair x a b) = is_name x && (spec_names a && spec_names b)
 spec_names (WrittenTree.comp s x e) = spec_names s && (is_name x && has_names e)
 spec_names (WrittenTree.opt s) = spec_names s
 spec_names (WrittenTree.pred e) = has_names e
 spec_names (WrittenTree.call f args) = is_name f && list_all has_names args
+spec_names _ = true
 
 abbrev pub param_names : List ℕ × ShapeTree → Bool
 param_names p = is_name p.0

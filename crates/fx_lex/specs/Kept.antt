@@ -6,10 +6,7 @@ use Rattle.fx_lex.specs.declared.token.Spanned.{Spanned}
 
 abbrev pub is_def : Token → Bool
 is_def (token.Word w) = bytes_eq w (codes "def")
-is_def (token.Number n) = false
-is_def (token.Str v) = false
-is_def (token.Mark m) = false
-is_def token.Def = false
+is_def _ = false
 
 -- the token, and in place of the word `def` one of its own
 abbrev pub kept : Token → Token

@@ -26,9 +26,8 @@ digits_value digits = fold (λ n digit. 10 * n + (digit - 48)) 0 digits
 
 -- no digit follows a `0` at the front
 abbrev pub HasNoLeadingZero : List ℕ → Type 0
-HasNoLeadingZero [] = Unit {0}
-HasNoLeadingZero (b ∷ []) = Unit {0}
 HasNoLeadingZero (b ∷ c ∷ digits) = b ≢ 48
+HasNoLeadingZero _ = Unit {0}
 
 -- the largest number that a text may write: 2 ^ 63 - 1
 abbrev pub number_limit : ℕ

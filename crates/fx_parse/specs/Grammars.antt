@@ -71,15 +71,11 @@ expr_tokens (ExprTree.only a glob) = opening ∷ (expr_tokens a ++ word keyword.
 
 -- each part of a form is a form of the next level
 abbrev pub expr_levels : ℕ → ExprTree → List ℕ
-expr_levels d (ExprTree.str v) = d ∷ []
-expr_levels d (ExprTree.int n) = d ∷ []
-expr_levels d (ExprTree.bool b) = d ∷ []
-expr_levels d ExprTree.empty = d ∷ []
-expr_levels d (ExprTree.var w) = d ∷ []
 expr_levels d (ExprTree.bin op a b) = d ∷ (expr_levels (suc d) a ++ (0 ∷ (expr_levels (suc d) b ++ 0 ∷ [])))
 expr_levels d (ExprTree.un op a) = d ∷ 0 ∷ (expr_levels (suc d) a ++ 0 ∷ [])
 expr_levels d (ExprTree.choose c a b) = d ∷ 0 ∷ (expr_levels (suc d) c ++ (0 ∷ (expr_levels (suc d) a ++ (0 ∷ (expr_levels (suc d) b ++ 0 ∷ [])))))
 expr_levels d (ExprTree.only a glob) = d ∷ (expr_levels (suc d) a ++ 0 ∷ 0 ∷ 0 ∷ [])
+expr_levels d _ = d ∷ []
 
 -- a name is a word that is not kept
 abbrev pub is_name : List ℕ → Bool
@@ -87,15 +83,12 @@ is_name w = is_none (keyword_of w)
 
 -- each name of the expression is one
 abbrev pub has_names : ExprTree → Bool
-has_names (ExprTree.str v) = true
-has_names (ExprTree.int n) = true
-has_names (ExprTree.bool b) = true
-has_names ExprTree.empty = true
 has_names (ExprTree.var w) = is_name w
 has_names (ExprTree.bin op a b) = has_names a && has_names b
 has_names (ExprTree.un op a) = has_names a
 has_names (ExprTree.choose c a b) = has_names c && (has_names a && has_names b)
 has_names (ExprTree.only a glob) = has_names a
+has_names _ = true
 
 abbrev pub exprs : Grammar ExprTree
 exprs = record { tokens = expr_tokens; levels = expr_levels; IsRight = has_names }
@@ -110,13 +103,10 @@ shape_tokens (ShapeTree.opt a) = word keyword.Opt ∷ opening ∷ (shape_tokens 
 shape_tokens (ShapeTree.table a) = word keyword.Table ∷ opening ∷ (shape_tokens a ++ closing ∷ [])
 
 abbrev pub shape_levels : ℕ → ShapeTree → List ℕ
-shape_levels d ShapeTree.str = d ∷ []
-shape_levels d ShapeTree.int = d ∷ []
-shape_levels d ShapeTree.bool = d ∷ []
-shape_levels d ShapeTree.names = d ∷ []
 shape_levels d (ShapeTree.pair a b) = d ∷ 0 ∷ (shape_levels (suc d) a ++ (0 ∷ (shape_levels (suc d) b ++ 0 ∷ [])))
 shape_levels d (ShapeTree.opt a) = d ∷ 0 ∷ (shape_levels (suc d) a ++ 0 ∷ [])
 shape_levels d (ShapeTree.table a) = d ∷ 0 ∷ (shape_levels (suc d) a ++ 0 ∷ [])
+shape_levels d _ = d ∷ []
 
 abbrev pub shapes : Grammar ShapeTree
 shapes = record { tokens = shape_tokens; levels = shape_levels; IsRight = λ _. true }

@@ -7,7 +7,7 @@ use Rattle.fx_store.specs.declared.node.Node.TheVariants.{File, Dir, Link}
 use Rattle.fx_store.specs.declared.node.Landing.{Landing}
 use Rattle.fx_store.specs.declared.node.Landing.TheVariants.{At}
 use Rattle.fx_store.specs.declared.name.PathFault.{PathFault}
-use Rattle.fx_store.specs.declared.name.PathFault.TheVariants.{BadName, TooDeep, NoMemory}
+use Rattle.fx_store.specs.declared.name.PathFault.TheVariants.{TooDeep}
 use Rattle.fx_store.specs.Faults.{extended}
 use Rattle.fx_store.specs.Rule.{Ask, Answer, Look, Tick, ◌>>=◌}
 use Rattle.fx_store.specs.Resolve.{resolve}
@@ -66,9 +66,8 @@ exists p = resolve p false >>= λ l. Answer (is_at l)
 -- the path of a focus: the place's path, extended by the text of its expression
 abbrev pub extension : Result (List (List ℕ)) PathFault → Result (List (List ℕ)) Refusal
 extension (Ok q) = Ok q
-extension (Err BadName) = Err Refusal.BadName
 extension (Err TooDeep) = Err Refusal.TooDeep
-extension (Err NoMemory) = Err Refusal.BadName
+extension (Err _) = Err Refusal.BadName
 
 abbrev pub focus_path : List (List ℕ) → Outcome → Result (List (List ℕ)) Refusal
 focus_path p (Ok v) = extension (extended p (text_in v))
@@ -121,9 +120,8 @@ argument_evals env (e ∷ es) = 1 + unless_fault (eval_of env e) (argument_evals
 
 -- the parameters with these values
 abbrev pub with_values : List (List ℕ × ShapeTree) → List Tree → Bindings
-with_values [] vs = []
-with_values (p ∷ ps) [] = []
 with_values (p ∷ ps) (v ∷ vs) = (p.0, v) ∷ with_values ps vs
+with_values _ _ = []
 
 -- a rule behind so many evaluations
 abbrev pub behind : {A : Type 0} → ℕ → Ask A → Ask A

@@ -9,7 +9,7 @@ use Rattle.fx_store.specs.declared.node.Landing.{Landing}
 use Rattle.fx_store.specs.declared.node.Landing.TheVariants.{At, Absent, Blocked, TooManyLinks}
 use Rattle.fx_store.specs.declared.changes.Change.{Change}
 use Rattle.fx_store.specs.declared.name.PathFault.{PathFault}
-use Rattle.fx_store.specs.declared.name.PathFault.TheVariants.{BadName, TooDeep, NoMemory}
+use Rattle.fx_store.specs.declared.name.PathFault.TheVariants.{TooDeep}
 use Rattle.fx_store.specs.Changes.{changed_paths}
 use Rattle.fx_store.specs.Faults.{read_link}
 use Rattle.fx_store.specs.Names.{is_name, has}
@@ -70,9 +70,8 @@ new_names q old new =
 
 -- no names are stored below a path of 64 names
 abbrev pub lacks_room : List (List ℕ) → Node → Bool
-lacks_room q (File bytes exec) = false
 lacks_room q (Dir names) = is_full q && nat_lt 0 (length names)
-lacks_room q (Link text) = false
+lacks_room q _ = false
 
 abbrev pub unless_deep : Bool → Ask (Answered (List Change)) → Ask (Answered (List Change))
 unless_deep true rule = Answer (Err Refusal.TooDeep)
@@ -93,9 +92,8 @@ replaced flag q node found = Answer (Err (Refusal.Blocked q))
 
 -- the empty files of a new directory
 abbrev pub children : List (List ℕ) → Node → List Change
-children q (File bytes exec) = []
 children q (Dir names) = map (λ n. set_to (q /ₚ n) (File [] false)) names
-children q (Link text) = []
+children q _ = []
 
 -- the missing directories on the way, and the node with the files that it lists
 abbrev pub made : List (List ℕ) → List ℕ → List (List ℕ) → Node → List Change
@@ -126,9 +124,8 @@ names_node names = cond (list_all is_name names) (Ok (Dir names)) (Err Refusal.B
 
 abbrev pub link_node : Result (List ℕ) PathFault → Answered Node
 link_node (Ok text) = Ok (Link text)
-link_node (Err BadName) = Err Refusal.BadName
 link_node (Err TooDeep) = Err Refusal.TooDeep
-link_node (Err NoMemory) = Err Refusal.BadName
+link_node (Err _) = Err Refusal.BadName
 
 abbrev pub form_node : SpecTree → Tree → Answered Node
 form_node SpecTree.file (Tree.str bytes) = Ok (File bytes false)
@@ -151,9 +148,8 @@ stored_node form v = cond (is_storable v) (form_node form v) (Err Refusal.WrongF
 
 -- the last link is followed for a file or directory
 abbrev pub follows_last : Node → Bool
-follows_last (File bytes exec) = true
-follows_last (Dir names) = true
 follows_last (Link text) = false
+follows_last _ = true
 
 -- whether a value is a file's flag
 abbrev pub is_flag : Tree → Bool
@@ -168,14 +164,9 @@ store_at v at = unrefused (λ node. resolve at.path (follows_last node) >>= stor
 abbrev pub bare_node : SpecTree → Option Node
 bare_node SpecTree.file = Some (File [] false)
 bare_node SpecTree.dir = Some (Dir [])
-bare_node SpecTree.link = None
-bare_node (SpecTree.focus e s) = None
 bare_node (SpecTree.pair x a b) = bare_node a
-bare_node (SpecTree.comp s x e) = None
 bare_node (SpecTree.opt s) = bare_node s
-bare_node (SpecTree.pred e) = None
-bare_node (SpecTree.call args params s) = None
-bare_node (SpecTree.last args params) = None
+bare_node _ = None
 
 abbrev pub create_landed : List (List ℕ) → Node → Landing → Ask (Answered (List Change))
 create_landed p node (At q) = Answer (Err Refusal.Exists)

@@ -119,9 +119,7 @@ value_shape (SpecTree.focus e s) = value_shape s
 value_shape (SpecTree.pair x a b) = ShapeTree.pair (value_shape a) (value_shape b)
 value_shape (SpecTree.comp s x e) = ShapeTree.table (value_shape s)
 value_shape (SpecTree.opt s) = ShapeTree.opt (value_shape s)
-value_shape (SpecTree.pred e) = ShapeTree.bool
-value_shape (SpecTree.call args params s) = ShapeTree.bool
-value_shape (SpecTree.last args params) = ShapeTree.bool
+value_shape _ = ShapeTree.bool
 
 -- the shape of what a fetch gives at a form; a pair and a call have no fetch, and a file has another, of its flag
 abbrev pub fetch_shape : SpecTree → Option ShapeTree
@@ -129,12 +127,10 @@ fetch_shape SpecTree.file = Some ShapeTree.str
 fetch_shape SpecTree.dir = Some ShapeTree.names
 fetch_shape SpecTree.link = Some ShapeTree.str
 fetch_shape (SpecTree.focus e s) = Some ShapeTree.str
-fetch_shape (SpecTree.pair x a b) = None
 fetch_shape (SpecTree.comp s x e) = Some ShapeTree.names
 fetch_shape (SpecTree.opt s) = Some ShapeTree.bool
 fetch_shape (SpecTree.pred e) = Some ShapeTree.bool
-fetch_shape (SpecTree.call args params s) = None
-fetch_shape (SpecTree.last args params) = None
+fetch_shape _ = None
 
 abbrev pub same_shape : ShapeTree → ShapeTree → Bool
 same_shape ShapeTree.str ShapeTree.str = true
@@ -157,12 +153,10 @@ fetched p env SpecTree.file = content file_value true p >>= λ v. Answer (needed
 fetched p env SpecTree.dir = content dir_value true p >>= λ v. Answer (needed Refusal.Lacks v)
 fetched p env SpecTree.link = content link_value false p >>= λ v. Answer (needed Refusal.Lacks v)
 fetched p env (SpecTree.focus e s) = Tick (Answer (evaluated (eval_of env e)))
-fetched p env (SpecTree.pair x a b) = Answer (Err Refusal.WrongForm)
 fetched p env (SpecTree.comp s x e) = Tick (Answer (evaluated (eval_of env e)))
 fetched p env (SpecTree.opt s) = exists p >>= λ there. Answer (Ok (Tree.bool there))
 fetched p env (SpecTree.pred e) = Tick (Answer (evaluated (eval_of env e)))
-fetched p env (SpecTree.call args params s) = Answer (Err Refusal.WrongForm)
-fetched p env (SpecTree.last args params) = Answer (Err Refusal.WrongForm)
+fetched p env _ = Answer (Err Refusal.WrongForm)
 
 -- the rule, where the form has the wanted shape
 abbrev pub of_shape : Bool → Ask (Answered Tree) → Ask (Answered Tree)

@@ -139,8 +139,7 @@ flow_outputs (Over end outputs) = outputs
 
 abbrev pub is_done : End → Bool
 is_done End.Done = true
-is_done (End.Stopped i f) = false
-is_done End.Aborted = false
+is_done _ = false
 
 -- the outputs and the end of a transaction on a filestore
 abbrev pub outputs : SpecTree → List CommandTree → Store → List Tree

@@ -25,9 +25,8 @@ HasSome scope e = (s : ShapeTree) × HasShape scope e s
 -- each argument has the shape of its parameter, and there are as many
 abbrev pub AreArguments : Scope → List ExprTree → List (List ℕ × ShapeTree) → Type 0
 AreArguments scope [] [] = Unit {0}
-AreArguments scope [] (p ∷ ps) = ⊥
-AreArguments scope (e ∷ es) [] = ⊥
 AreArguments scope (e ∷ es) (p ∷ ps) = HasShape scope e p.1 × AreArguments scope es ps
+AreArguments scope _ _ = ⊥
 
 -- what a description means is well shaped: in the body of a call the parameters alone are bound
 abbrev pub IsDescription : Scope → SpecTree → Type 0
@@ -51,8 +50,7 @@ written_shape (WrittenTree.focus e s) = written_shape s
 written_shape (WrittenTree.pair x a b) = ShapeTree.pair (written_shape a) (written_shape b)
 written_shape (WrittenTree.comp s x e) = ShapeTree.table (written_shape s)
 written_shape (WrittenTree.opt s) = ShapeTree.opt (written_shape s)
-written_shape (WrittenTree.pred e) = ShapeTree.bool
-written_shape (WrittenTree.call f args) = ShapeTree.bool
+written_shape _ = ShapeTree.bool
 
 -- a call names a definition of the text, and its arguments are those of the definition's parameters
 pub record IsCall (defs : List DefTree) (scope : Scope) (f : List ℕ) (args : List ExprTree) : Type 0 where
@@ -61,15 +59,13 @@ pub record IsCall (defs : List DefTree) (scope : Scope) (f : List ℕ) (args : L
   pub arguments : AreArguments scope args named.params
 
 abbrev pub IsWritten : List DefTree → Scope → WrittenTree → Type 0
-IsWritten defs scope WrittenTree.file = Unit {0}
-IsWritten defs scope WrittenTree.dir = Unit {0}
-IsWritten defs scope WrittenTree.link = Unit {0}
 IsWritten defs scope (WrittenTree.focus e s) = HasShape scope e ShapeTree.str × IsWritten defs scope s
 IsWritten defs scope (WrittenTree.pair x a b) = IsWritten defs scope a × IsFree scope x × IsWritten defs (bind scope x (written_shape a)) b
 IsWritten defs scope (WrittenTree.comp s x e) = HasShape scope e ShapeTree.names × IsFree scope x × IsWritten defs (bind scope x ShapeTree.str) s
 IsWritten defs scope (WrittenTree.opt s) = IsWritten defs scope s
 IsWritten defs scope (WrittenTree.pred e) = HasShape scope e ShapeTree.bool
 IsWritten defs scope (WrittenTree.call f args) = IsCall defs scope f args
+IsWritten defs scope _ = Unit {0}
 
 -- no name is that of two parameters, and of two definitions
 abbrev pub AreFree : Scope → List (List ℕ × ShapeTree) → Type 0

@@ -41,9 +41,8 @@ is_full here = nat_lt 63 (length here)
 -- the names of a rest that holds names alone
 abbrev pub names_only : List Component → Option (List (List ℕ))
 names_only [] = Some []
-names_only (CurDir ∷ rest) = None
-names_only (ParentDir ∷ rest) = None
 names_only (Normal n ∷ rest) = option_map (λ ns. n ∷ ns) (names_only rest)
+names_only _ = None
 
 abbrev pub absent : List (List ℕ) → Option (List (List ℕ)) → Landing
 absent here None = Blocked here

@@ -18,10 +18,8 @@ Nodes = FinMap path_cmp Node
 
 -- whether it is a directory that lists the name
 abbrev pub lists : Option Node → List ℕ → Bool
-lists None name = false
-lists (Some (File bytes exec)) name = false
 lists (Some (Dir names)) name = has names name
-lists (Some (Link text)) name = false
+lists _ name = false
 
 -- the node is within its limits at the path; a directory at a path of 64 names lists none
 abbrev pub IsNode : List (List ℕ) → Node → Type 0
