@@ -73,9 +73,8 @@ is_listed_before (place ∷ places) before path =
 
 -- both places are in the folder of the filestore, where one is written before the other
 abbrev pub is_node_before : Option Parts → Option Parts → Bool
-is_node_before None path = false
-is_node_before (Some before) None = false
 is_node_before (Some before) (Some path) = is_written_before before path
+is_node_before _ _ = false
 
 -- the order in which a case is written: the folder itself, the description, the scripts by their numbers, and last the
 -- folder of the filestore in its own order

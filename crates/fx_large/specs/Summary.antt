@@ -1,6 +1,6 @@
 -- What a run of a generated case is summed up to: how many transactions there were and how many of them were done, the sum
 -- of the projects' counts, the number of names in their logs, and the number of nodes of the last filestore.
-use Rattle.std.specs.Prelude.{ℕ, zero, suc, ◌+◌, ℤ, pos, ◌+ℤ◌, Bool, true, false, List, [], ◌∷◌, ◌++◌, codes, length, Option, Some, None, Ok, Err}
+use Rattle.std.specs.Prelude.{ℕ, zero, suc, ◌+◌, ℤ, pos, ◌+ℤ◌, List, [], ◌∷◌, ◌++◌, codes, length, Option, Some, Ok, Err}
 use Rattle.std.specs.Fmt.{decimal, signed_decimal}
 use Rattle.std.specs.FinMap.{get, entries}
 use Rattle.std.specs.List.{count_by}
@@ -8,22 +8,16 @@ use Rattle.fx_expr.specs.declared.expr.UnOp.{UnOp}
 use Rattle.fx_expr.specs.ExprTree.{ExprTree}
 use Rattle.fx_expr.specs.Eval.{Outcome, integer_in, read_integer}
 use Rattle.fx_store.specs.declared.node.Node.{Node}
-use Rattle.fx_store.specs.declared.node.Node.TheVariants.{File, Dir, Link}
+use Rattle.fx_store.specs.declared.node.Node.TheVariants.{File, Dir}
 use Rattle.fx_store.specs.Whole.{Nodes}
-use Rattle.fx_spec.specs.declared.refusal.End.{End}
-use Rattle.fx_spec.specs.declared.refusal.End.TheVariants.{Done, Stopped, Aborted}
 use Rattle.fx_spec.specs.Order.{BaseTree, state}
 use Rattle.fx_spec.specs.Plans.{Turn}
+pub use Rattle.fx_spec.specs.Transaction.{is_done}
 use Rattle.fx_report.specs.declared.printed.PrintedEntry.{PrintedEntry}
 use Rattle.fx_report.specs.Entries.{entries_of}
 use Rattle.fx_gen.specs.Notes.{project}
 
-abbrev pub is_done : End → Bool
-is_done Done = true
-is_done (Stopped command refusal) = false
-is_done Aborted = false
-
--- how many transactions of the order end so, each by its meaning on the state before it
+-- how many transactions of the order are done, each by its meaning on the state before it
 abbrev pub done_of : BaseTree → List Turn → ℕ
 done_of base o = count_by (λ (e : PrintedEntry). is_done e.end) (entries_of base o)
 
@@ -38,17 +32,13 @@ integer_or_zero (Err fault) = pos 0
 
 -- what a count adds, if it is a file
 abbrev pub counted_at : Option Node → ℤ
-counted_at None = pos 0
 counted_at (Some (File bytes exec)) = integer_or_zero (read_integer bytes)
-counted_at (Some (Dir names)) = pos 0
-counted_at (Some (Link text)) = pos 0
+counted_at _ = pos 0
 
 -- how many names a log has, if it is a directory
 abbrev pub logged_at : Option Node → ℕ
-logged_at None = 0
-logged_at (Some (File bytes exec)) = 0
 logged_at (Some (Dir names)) = length names
-logged_at (Some (Link text)) = 0
+logged_at _ = 0
 
 -- in the first n projects
 unfoldable pub counted_to : Nodes → ℕ → ℤ

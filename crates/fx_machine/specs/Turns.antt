@@ -8,9 +8,8 @@ use Rattle.fx_machine.specs.declared.event.Event.TheVariants as event
 use Rattle.fx_machine.specs.Machine.{shell_of}
 
 abbrev pub is_settled_by : ℕ → Event → Bool
-is_settled_by shell (event.Look k path position) = false
 is_settled_by shell (event.Settled k entry) = nat_eq k shell
-is_settled_by shell (event.Conflict k entry path) = false
+is_settled_by shell _ = false
 
 -- whether a shell has a transaction left after these events
 abbrev pub has_more : BaseTree → List Event → ℕ → Bool

@@ -4,7 +4,7 @@ use Rattle.std.specs.Option.{option_map_or}
 use Rattle.std.specs.List.{list_all}
 use Rattle.std.specs.FinMap.{FinMap, get, insert}
 use Rattle.fx_outside.specs.declared.kind.HostKind.{HostKind}
-use Rattle.fx_outside.specs.declared.kind.HostKind.TheVariants.{File, Folder, Other}
+use Rattle.fx_outside.specs.declared.kind.HostKind.TheVariants.{File, Folder}
 use Rattle.fx_outside.specs.declared.kind.Standing.{Standing}
 use Rattle.fx_outside.specs.declared.kind.Standing.TheVariants.{Absent, Is}
 use Rattle.fx_outside.specs.Listing.{Names}
@@ -26,13 +26,11 @@ folder = record { kind = Folder; bytes = [] }
 
 abbrev pub is_file_kind : HostKind → Bool
 is_file_kind File = true
-is_file_kind Folder = false
-is_file_kind Other = false
+is_file_kind _ = false
 
 abbrev pub is_folder_kind : HostKind → Bool
-is_folder_kind File = false
 is_folder_kind Folder = true
-is_folder_kind Other = false
+is_folder_kind _ = false
 
 -- a folder stands at these parts; the root, with no parts, is one
 abbrev pub has_folder : Tree → Parts → Bool

@@ -23,9 +23,8 @@ IsFormRefusal other = Unit {0}
 
 -- the number of a command has 32 bits
 abbrev pub IsFormEnd : End → Type 0
-IsFormEnd end.Done = Unit {0}
 IsFormEnd (end.Stopped command r) = (command < 2 ^ 32) × IsFormRefusal r
-IsFormEnd end.Aborted = Unit {0}
+IsFormEnd _ = Unit {0}
 
 abbrev pub ArePrinted : List Tree → Type 0
 ArePrinted values = AllByRecursion (IsPrinted VALUE_LEVELS) values

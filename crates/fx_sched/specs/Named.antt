@@ -16,9 +16,8 @@ pub record IsNamedAt (base : BaseTree) (o : List Turn) (looks : List Look) (entr
 
 -- a conflict, coming in this state, names such an entry and path of its shell's looks
 abbrev pub NamesConflict : BaseTree → Machine → Event → Type 0
-NamesConflict base m (event.Look shell path position) = ⊤
-NamesConflict base m (event.Settled shell entry) = ⊤
 NamesConflict base m (event.Conflict shell entry path) = IsNamedAt base m.order (looks_of m shell) entry path
+NamesConflict base m _ = ⊤
 
 -- so does each conflict among the events, in the state to which those before it lead
 abbrev pub NameConflicts : BaseTree → Machine → List Event → Type 0

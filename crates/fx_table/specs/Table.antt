@@ -72,13 +72,11 @@ lines_of nodes = filter_map line_at (entries nodes)
 -- a path and a text of a link that were read
 abbrev pub linked_line : Result (List (List ℕ)) PathFault → Result (List ℕ) PathFault → Option TableLine
 linked_line (Ok path) (Ok text) = Some (record { path = path; mark = Target text })
-linked_line (Ok path) (Err fault) = None
-linked_line (Err fault) text = None
+linked_line _ _ = None
 
 abbrev pub link_of : Option (List ℕ) → Option (List ℕ) → Option TableLine
 link_of (Some path) (Some text) = linked_line (read_path path) (read_link text)
-link_of (Some path) None = None
-link_of None text = None
+link_of _ _ = None
 
 -- a path of a file that was read
 abbrev pub flagged : Result (List (List ℕ)) PathFault → Option TableLine
@@ -91,11 +89,9 @@ flag_of None = None
 
 -- the line of its parts: a spelled path text, and a star; or one, an arrow and a spelled link text
 abbrev pub read_parts : List (List ℕ) → Option TableLine
-read_parts [] = None
-read_parts (a ∷ []) = None
 read_parts (path ∷ star ∷ []) = cond (bytes_eq star (codes "*")) (flag_of (unspelled path)) None
 read_parts (path ∷ arrow ∷ text ∷ []) = cond (bytes_eq arrow (codes "->")) (link_of (unspelled path) (unspelled text)) None
-read_parts (a ∷ b ∷ c ∷ d ∷ more) = None
+read_parts _ = None
 
 abbrev pub is_space : ℕ → Bool
 is_space b = b == 32
@@ -107,16 +103,12 @@ read_line line = read_parts (slice_split is_space line)
 -- ---- which lines a filestore can have
 
 abbrev pub is_dir : Option Node → Bool
-is_dir None = false
-is_dir (Some (File bytes exec)) = false
 is_dir (Some (Dir names)) = true
-is_dir (Some (Link text)) = false
+is_dir _ = false
 
 abbrev pub is_file : Option Node → Bool
-is_file None = false
 is_file (Some (File bytes exec)) = true
-is_file (Some (Dir names)) = false
-is_file (Some (Link text)) = false
+is_file _ = false
 
 -- a link can be made at the path: its parent is a directory of the filestore, which has no links yet, and nothing stands
 -- there; a link that an earlier line made is no directory
@@ -158,11 +150,10 @@ read_on number (Some line) further = with_first line (further line)
 -- what the lines from a number on say, or the number of the first bad line; what stands behind the last line feed is a line
 -- that lacks its own, unless it is empty
 abbrev pub read_lines : Setting → List (List ℕ) → ℕ → List (List ℕ) → Result (List TableLine) ℕ
-read_lines s before number [] = Ok []
-read_lines s before number ([] ∷ []) = Ok []
-read_lines s before number ((b ∷ line) ∷ []) = Err number
 read_lines s before number (line ∷ next ∷ lines) =
     read_on number (next_line s before (read_line line)) (λ l. read_lines s l.path (number + 1) (next ∷ lines))
+read_lines s before number ((b ∷ line) ∷ []) = Err number
+read_lines s before number _ = Ok []
 
 abbrev pub is_feed : ℕ → Bool
 is_feed b = b == 10

@@ -24,9 +24,8 @@ upper_digit_value c = cond (nat_le 48 c && nat_le c 57) (Some (c - 48)) (cond (n
 
 -- the byte of two digits, if it does not stand for itself
 abbrev pub escaped : Option ℕ → Option ℕ → Option ℕ
-escaped None low = None
-escaped (Some high) None = None
 escaped (Some high) (Some low) = cond (is_plain_byte (16 * high + low)) None (Some (16 * high + low))
+escaped _ _ = None
 
 -- a byte and those behind it, if all could be read
 abbrev pub byte_before : Option ℕ → Option (List ℕ) → Option (List ℕ)

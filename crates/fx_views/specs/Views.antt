@@ -17,9 +17,8 @@ pub record IsView (base : BaseTree) (t : List CommandTree) (o : List Turn) (v : 
 -- with fewer entries than `least`
 abbrev pub AreViewsFrom : BaseTree → List Turn → ℕ → List (List CommandTree) → List View → Type 0
 AreViewsFrom base o least [] [] = Unit {0}
-AreViewsFrom base o least [] (v ∷ vs) = ⊥
-AreViewsFrom base o least (t ∷ ts) [] = ⊥
 AreViewsFrom base o least (t ∷ ts) (v ∷ vs) = (least ≤ v.position) × IsView base t o v × AreViewsFrom base o v.position ts vs
+AreViewsFrom base o least _ _ = ⊥
 
 abbrev pub AreViews : BaseTree → List (List CommandTree) → List Turn → List View → Type 0
 AreViews base txns o views = AreViewsFrom base o 0 txns views
