@@ -1,5 +1,5 @@
 -- Texts and words, as lists of bytes.
-use Rattle.std.specs.Prelude.{◌≡◌, ℕ, ◌≤◌, Bool, true, false, ◌||◌, ◌&&◌, List, [], ◌∷◌, length, nat_eq, nat_le}
+use Rattle.std.specs.Prelude.{◌≡◌, ℕ, ◌≤◌, Bool, true, false, ◌||◌, ◌&&◌, List, [], ◌∷◌, length, nat_eq, nat_le, slice_range}
 use Rattle.std.specs.List.{list_all}
 pub use Rattle.fx_text.specs.Bytes.{IsText}
 use Rattle.fx_expr.specs.declared.word.TheConstants.{WORD_LIMIT}
@@ -22,3 +22,9 @@ pub record IsWord (bytes : List ℕ) : Type 0 where
   pub start : has_word_start bytes ≡ true
   pub each : list_all is_word_byte bytes ≡ true
   pub short : length bytes ≤ WORD_LIMIT
+
+-- a word stands in the text from one place up to another
+pub record IsWordAt (text : List ℕ) (start stop : ℕ) : Type 0 where
+  pub ordered : start ≤ stop
+  pub within : stop ≤ length text
+  pub word : IsWord (slice_range text start stop)

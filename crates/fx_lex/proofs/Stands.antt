@@ -1,16 +1,17 @@
 -- When a word, a number or a mark stands at the front of bytes, and when nothing does.
-use Rattle.std.proofs.Common.{◌≡◌, ℕ, ◌<◌, ◌≤◌, Bool, true, inl, inr, ℤ, List, [], ◌∷◌, ◌++◌, length, take, drop, get_or, pos, refl, sym, ap, ◌∙◌, subst, arith, length-take-le, take-append-drop}
+use Rattle.std.proofs.Common.{◌≡◌, ℕ, ◌+◌, ◌-◌, ◌<◌, ◌≤◌, Bool, true, inl, inr, ℤ, List, [], ◌∷◌, ◌++◌, length, take, drop, get_or, pos, refl, sym, ap, ◌∙◌, subst, arith, take-append-drop, length-drop}
 use Rattle.std.specs.List.{list_all, prefix_len, take_while}
 use Rattle.std.proofs.lemmas.Bool.{or_left, false≢true}
 use Rattle.std.proofs.lemmas.List.{take_at}
-use Rattle.std.proofs.lemmas.List.Sums.{prefix_len-le-length}
 use Rattle.std.proofs.lemmas.List.Folds.{length-prefix_len}
-use Rattle.fx_expr.specs.Bytes.{begins_word, is_word_byte, has_word_start, IsWord}
+use Rattle.fx_expr.specs.Bytes.{begins_word, is_word_byte, has_word_start, IsWord, IsWordAt}
 use Rattle.fx_lex.specs.declared.token.Token.{Token}
 use Rattle.fx_lex.specs.declared.token.Token.TheVariants as token
+use Rattle.fx_lex.specs.declared.scan.Found.TheVariants as found
 use Rattle.fx_lex.specs.Spelling.{IsWordRun, is_digit, IsDigitRun, HasNoLeadingZero, digits_value, number_limit, IsLexeme, Spells}
 use Rattle.fx_lex.specs.Reading.{StandsAt, Gap, Lexeme, HasNoPiece}
 use Rattle.fx_lex.specs.Kinds.{byte_kind}
+use Rattle.fx_lex.specs.Found.{IsFoundAt}
 use Rattle.fx_lex.proofs.Runs.{run_longest, run_passes, run_starts, run_some}
 use Rattle.fx_lex.proofs.Heads.{kind_word, kind_digit, LexemeOf, lexeme_of, gap_kind, spells_kind, spells_some}
 
@@ -99,10 +100,16 @@ word_none [] n h e long = absurd (false≢true h)
 word_none (b ∷ bytes) n h e long =
     no_piece b bytes (rw (kind_word b h) (omega arith)) (λ s more t eq stands. let fits = word_fits b bytes s more t h eq stands in absurd (omega (arith, long, e, fits)))
 
-pub word_is : (bytes : List ℕ) (n : ℕ) → has_word_start bytes ≡ true → n ≡ prefix_len is_word_byte bytes → n ≤ 64 → IsWord (take n bytes)
-word_is bytes n h e short =
-    let run = subst (λ m. IsWordRun (take m bytes)) (sym e) (word_run bytes h).0 in
-    record { start = run.0; each = run.1; short = omega (arith, short, length-take-le n bytes (subst (λ m. m ≤ length bytes) (sym e) (prefix_len-le-length is_word_byte bytes))) }
+-- the place of a word in the text
+pub word_place : (text : List ℕ) (place n : ℕ) → place ≤ length text → IsFoundAt (drop place text) (found.Word n) → IsWordAt text place (place + n)
+word_place text place n low here =
+    let spells = here.2.spells in
+    let size : place + n - place ≡ n = omega arith in
+    record {
+      ordered = omega arith;
+      within = omega (arith, low, here.1, length-drop place text);
+      word = subst (λ m. IsWord (take m (drop place text))) (sym size) (record { start = spells.0.0; each = spells.0.1; short = spells.1 });
+    }
 
 digit_start : (b : ℕ) (bytes : List ℕ) → is_digit b ≡ true → IsDigitRun (take_while is_digit (b ∷ bytes))
 digit_start b bytes h =

@@ -1,15 +1,18 @@
 -- Reading a string item by item.
-use Rattle.std.proofs.Common.{◌≡◌, ℕ, ◌+◌, ◌<◌, ◌≤◌, Bool, true, false, cond, eqb, ◌⊎◌, inl, inr, Option, Some, None, List, [], ◌∷◌, ◌++◌, length, map, take, drop, get_or, refl, sym, ap, ◌∙◌, subst, arith, length-take-le, length-append, take-append-drop, append_assoc}
-use Rattle.std.specs.List.{list_all, flat_map}
+use Rattle.std.proofs.Common.{◌≡◌, ℕ, ◌+◌, ◌<◌, ◌≤◌, Bool, true, false, ◌&&◌, cond, eqb, ◌⊎◌, inl, inr, Option, Some, None, List, [], ◌∷◌, ◌++◌, length, map, take, drop, get_or, refl, sym, ap, ◌∙◌, subst, arith, length-take-le, length-append, take-append-drop, append_assoc}
+use Rattle.std.specs.List.{list_all, flat_map, prefix_len}
 use Rattle.std.proofs.lemmas.Bool.{and_parts, and_from, cond-true, cond-false, eqb-true, cases_Bool, false≢true}
 use Rattle.std.proofs.lemmas.List.{take_at, drop_at, drop-drop, drop_more, drop_all, flat_map_more, append-nil, append_cancel_left, map-append, length-drop}
 use Rattle.std.proofs.lemmas.List.Folds.{list_all-append}
+use Rattle.std.proofs.lemmas.List.Sums.{prefix_len-le-length}
+use Rattle.std.proofs.Math.Numerals.{one-add}
 use Rattle.fx_lex.specs.declared.token.Token.TheVariants as token
 use Rattle.fx_lex.specs.Spelling.{Item, Plain, Escaped, Hex, is_item, item_bytes, item_value, IsString, IsLexeme}
 use Rattle.fx_lex.specs.Reading.{StandsAt, HasNoPiece}
 use Rattle.fx_lex.specs.Kinds.{byte_kind}
-use Rattle.fx_lex.specs.Items.{first_item, escaped_item, hex_item}
+use Rattle.fx_lex.specs.Items.{is_plain, first_item, escaped_item, hex_item}
 use Rattle.fx_lex.proofs.Heads.{LexemeOf, lexeme_of, spells_lexeme}
+use Rattle.fx_lex.proofs.Runs.{run_passes}
 use Rattle.fx_lex.proofs.Stands.{no_piece}
 
 -- a byte that stands for itself is no `\`
@@ -166,17 +169,35 @@ pub record StringSoFar (bytes : List ℕ) (at : ℕ) (value : List ℕ) : Type 0
   pub within : at ≤ length bytes
   pub short : length value ≤ at
 
-pub string_begins : (bytes : List ℕ) → 0 < length bytes → get_or bytes 0 0 ≡ 34 → StringSoFar bytes 1 []
-string_begins [] some quote = absurd (omega (arith, some))
-string_begins (b ∷ bytes) some quote = record {
-  items = [];
-  right = refl;
-  begun = ap (λ x. x ∷ bytes) quote;
-  stands = refl;
-  some = omega arith;
-  within = omega (arith, some);
-  short = omega arith;
-}
+plain_right : (xs : List ℕ) → list_all is_item (map Plain xs) ≡ list_all is_plain xs
+plain_right [] = refl
+plain_right (x ∷ xs) = ap (λ t. is_plain x && t) (plain_right xs)
+
+plain_bytes : (xs : List ℕ) → flat_map item_bytes (map Plain xs) ≡ xs
+plain_bytes [] = refl
+plain_bytes (x ∷ xs) = ap (λ l. x ∷ l) (plain_bytes xs)
+
+plain_values : (xs : List ℕ) → map item_value (map Plain xs) ≡ xs
+plain_values [] = refl
+plain_values (x ∷ xs) = ap (λ l. x ∷ l) (plain_values xs)
+
+-- behind the quote and the bytes that stand for themselves
+pub string_runs : (bytes : List ℕ) (n : ℕ) → 0 < length bytes → get_or bytes 0 0 ≡ 34 → n ≡ prefix_len is_plain (drop 1 bytes) → StringSoFar bytes (1 + n) (take n (drop 1 bytes))
+string_runs [] n some quote e = absurd (omega (arith, some))
+string_runs (b ∷ rest) n some quote e =
+    let xs = take n rest in
+    let within : n ≤ length rest = subst (λ m. m ≤ length rest) (sym e) (prefix_len-le-length is_plain rest) in
+    let passes : list_all is_plain xs ≡ true = subst (λ m. list_all is_plain (take m rest) ≡ true) (sym e) (run_passes is_plain rest) in
+    subst (λ at. StringSoFar (b ∷ rest) at xs) (sym (one-add n))
+    (record {
+      items = map Plain xs;
+      right = plain_right xs ∙ passes;
+      begun = ap (λ x. x ∷ rest) quote ∙ ap (λ l. 34 ∷ l) (sym (take-append-drop n rest) ∙ ap (λ l. l ++ drop n rest) (sym (plain_bytes xs)));
+      stands = sym (plain_values xs);
+      some = omega arith;
+      within = omega (arith, within);
+      short = omega (arith, length-take-le n rest within);
+    })
 
 pub string_goes_on : (bytes : List ℕ) (at v n : ℕ) (value : List ℕ) → StringSoFar bytes at value → IsFirstItem (drop at bytes) v n → StringSoFar bytes (at + n) (value ++ v ∷ [])
 string_goes_on bytes at v n value so first =

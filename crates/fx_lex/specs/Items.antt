@@ -1,6 +1,10 @@
 -- Reading one item of a string.
-use Rattle.std.specs.Prelude.{ℕ, Option, Some, None, List, [], ◌∷◌, ◌==◌, if◌then◌else◌}
+use Rattle.std.specs.Prelude.{ℕ, Bool, Option, Some, None, List, [], ◌∷◌, ◌==◌, if◌then◌else◌}
 use Rattle.fx_lex.specs.Spelling.{Plain, Escaped, Hex, is_item, item_value}
+
+-- the byte stands for itself
+abbrev pub is_plain : ℕ → Bool
+is_plain b = is_item (Plain b)
 
 -- after `\x`
 abbrev pub hex_item : List ℕ → Option (ℕ × ℕ)

@@ -1,4 +1,4 @@
-ghost use Rattle.std.specs.Prelude.{◌≡◌, ℕ, ◌≤◌, ◌⊎◌, List, length, IfOk, IfErr, IsErrAnd};
+ghost use Rattle.std.specs.Prelude.{◌≡◌, ℕ, ◌≤◌, ◌⊎◌, List, [], ◌∷◌, ◌++◌, length, IfOk, OnOk, IfErr, IsErrAnd};
 ghost use Rattle.fx_base.specs.Limits.{source_limit};
 ghost use Rattle.fx_lex.specs.declared.token.Spanned.{Spanned};
 ghost use Rattle.fx_lex.specs.Reading.{AreTokensOf, IsBadAt, IsFaultOf};
@@ -6,13 +6,20 @@ ghost use Rattle.fx_lex.specs.Laws.{TokensAreUnique, BadPlaceIsUnique, TokensExc
 
 use crate::list::Tokens;
 use crate::scan::{Found, found_at};
-use crate::token::{LexFault, Spanned};
+use crate::token::{LexFault, Spanned, Token};
+use fx_base::NoMemory;
+use fx_expr::Word;
 use std::alloc::Global;
+use std::sync::ArcSlice;
+
+/// The most tokens that there is room for before the first one is read. More room comes with the tokens.
+const ROOM: usize = 16_384;
 
 /// The tokens of a text of at most [`SOURCE_LIMIT`](fx_base::SOURCE_LIMIT) bytes, each with its span. Blanks and comments separate them, and at each
 /// other place the longest token is taken. A run of digits is one number, and a run of word bytes that begins with a
 /// letter or `_` is one word: a number that is too large or has a leading zero, and a word that is too long, are
-/// refused at their first byte, and a string without its end, or with a wrong item, at its opening quote. One pass.
+/// refused at their first byte, and a string without its end, or with a wrong item, at its opening quote. One pass. All
+/// words are cut out of one copy of the text, which is kept as long as one of them stands.
 pub fn lex(alloc: Global, text: &[u8]) -> Result<Tokens, LexFault>
     requires { length text.now ≤ source_limit }
     ensures tokens { IfOk result (λ t. AreTokensOf text.now t.spanned) }
@@ -25,23 +32,40 @@ pub fn lex(alloc: Global, text: &[u8]) -> Result<Tokens, LexFault>
     ensures told { (place : ℕ) → IsBadAt text.now place →
         IsErrAnd result (λ e. (e ≡ LexFault.BadToken place) ⊎ (e ≡ LexFault.NoMemory)) }
 {
-    let mut items = Vec::new(alloc);
+    let shared = ArcSlice::from_slice(alloc, text)?;
+    let mut items = Vec::with_capacity(alloc, (text.len() / 4).min(ROOM))?;
     let mut at = 0;
     while at < text.len() {
         match found_at(alloc, &text[at..])? {
             Found::Gap(len) => at += len,
+            Found::Word(len) => {
+                let word = Word::cut(&shared, at, at + len)?;
+                push(&mut items, Token::Word(word), at, at + len)?;
+                at += len;
+            }
             Found::Token(token, len) => {
-                items.push(Spanned {
-                    token,
-                    start: at as u32,
-                    stop: (at + len) as u32,
-                })?;
+                push(&mut items, token, at, at + len)?;
                 at += len;
             }
             Found::Nothing => return Err(LexFault::BadToken(at as u32)),
         }
     }
     Ok(Tokens::of(items, text.len() as u32))
+}
+
+/// Adds the token that stands in the text from `start` up to `stop`.
+fn push(items: &mut Vec<Spanned>, token: Token, start: usize, stop: usize) -> Result<(), NoMemory>
+    requires ordered { start ≤ stop }
+    requires short { stop ≤ source_limit }
+    ensures { OnOk result (items.new.items ≡ items.old.items ++
+        record { token = token; start = start; stop = stop } ∷ []) }
+{
+    items.push(Spanned {
+        token,
+        start: start as u32,
+        stop: stop as u32,
+    })?;
+    Ok(())
 }
 
 /// A text has one list of tokens at most, and one first bad place at most, and never both.

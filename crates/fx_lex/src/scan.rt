@@ -11,28 +11,30 @@ use crate::number::number_of;
 use crate::string::string_at;
 use crate::token::Token;
 use fx_base::NoMemory;
-use fx_expr::{WORD_LIMIT, Word};
+use fx_expr::WORD_LIMIT;
 use std::alloc::Global;
 
 /// What stands at a place of a text, and how many bytes it has.
 #[derive(Drop)]
 pub(crate) enum Found {
     Gap(usize),
+    /// A word, which is still to be cut out of the text.
+    Word(usize),
+    /// A token other than a word.
     Token(Token, usize),
     Nothing,
 }
 
 /// The word whose first byte stands at the front.
-fn word_at(alloc: Global, bytes: &[u8]) -> Result<Found, NoMemory>
+fn word_at(bytes: &[u8]) -> Found
     requires { has_word_start bytes.now ≡ true }
-    ensures { IfOk result (IsFoundAt bytes.now) }
+    ensures { IsFoundAt bytes.now result }
 {
     let len = word_len(bytes);
     if len > WORD_LIMIT {
-        return Ok(Found::Nothing);
+        return Found::Nothing;
     }
-    let word = Vec::from_slice(alloc, &bytes[..len])?;
-    Ok(Found::Token(Token::Word(Word::from_vec(word)), len))
+    Found::Word(len)
 }
 
 /// The number whose first digit stands at the front.
@@ -80,7 +82,7 @@ pub(crate) fn found_at(alloc: Global, bytes: &[u8]) -> Result<Found, NoMemory>
         return Ok(Found::Gap(line_len(bytes)));
     }
     if begins_word(first) {
-        return word_at(alloc, bytes);
+        return Ok(word_at(bytes));
     }
     if is_digit(first) {
         return Ok(number_at(bytes));

@@ -1,9 +1,10 @@
 ghost use Rattle.std.specs.Prelude.{◌≡◌, ◌<◌, ◌≤◌, length, IfOk, SomeIff, slice_index};
 ghost use Rattle.std.specs.Char.{digit_value};
+ghost use Rattle.std.specs.List.{prefix_len};
 ghost use Rattle.fx_base.specs.Limits.{source_limit};
-ghost use Rattle.fx_lex.specs.Spelling.{Plain, Escaped, is_item, item_value};
+ghost use Rattle.fx_lex.specs.Spelling.{Escaped, is_item, item_value};
 ghost use Rattle.fx_lex.specs.Found.{IsFoundAt};
-ghost use Rattle.fx_lex.specs.Items.{first_item, escaped_item, hex_item};
+ghost use Rattle.fx_lex.specs.Items.{is_plain, first_item, escaped_item, hex_item};
 
 use crate::scan::Found;
 use crate::token::Token;
@@ -62,9 +63,22 @@ fn escaped_item(rest: &[u8]) -> Option<(u8, usize)>
 }
 
 fn is_plain(b: u8) -> bool
-    ensures { result ≡ is_item (Plain b) }
+    ensures { result ≡ is_plain b }
 {
     (b >= 0x20 && (b <= 0x7e && (b != b'"' && b != b'\\'))) || b >= 0x80
+}
+
+/// How many bytes at the front stand for themselves.
+fn plain_len(bytes: &[u8]) -> usize
+    ensures run { result ≡ prefix_len is_plain bytes.now }
+    ensures within { result ≤ length bytes.now }
+{
+    for (at, b) in bytes.iter().enumerate() {
+        if !is_plain(*b) {
+            return at;
+        }
+    }
+    bytes.len()
 }
 
 /// The byte that the item at the front stands for, and the item's length.
@@ -90,8 +104,9 @@ pub(crate) fn string_at(alloc: Global, bytes: &[u8]) -> Result<Found, NoMemory>
     requires short { length bytes.now ≤ source_limit }
     ensures { IfOk result (IsFoundAt bytes.now) }
 {
-    let mut value = Vec::new(alloc);
-    let mut at = 1;
+    let plain = plain_len(&bytes[1..]);
+    let mut value = Vec::from_slice(alloc, &bytes[1..1 + plain])?;
+    let mut at = 1 + plain;
     while at < bytes.len() {
         if bytes[at] == b'"' {
             return Ok(Found::Token(Token::Str(Text::from_vec(value)), at + 1));

@@ -1,6 +1,6 @@
 use fx_base::NoMemory;
 use fx_expr::{Text, Word};
-use std::alloc::AllocFailed;
+use std::alloc::{AllocError, AllocFailed};
 use std::error::Error;
 use std::fmt;
 
@@ -90,6 +90,17 @@ impl From<NoMemory> for LexFault {
     ghost from_gives = { λ _ e. e ≡ NoMemory };
 
     fn from(_: NoMemory) -> LexFault {
+        LexFault::NoMemory
+    }
+}
+
+impl From<AllocError> for LexFault {
+    ghost use Rattle.std.specs.Prelude.{◌≡◌};
+    ghost use Rattle.fx_lex.specs.declared.token.LexFault.TheVariants.{NoMemory};
+
+    ghost from_gives = { λ _ e. e ≡ NoMemory };
+
+    fn from(_: AllocError) -> LexFault {
         LexFault::NoMemory
     }
 }

@@ -79,7 +79,7 @@ fn bound_twice(alloc: Global, word: &Word) -> Result<Env, NoMemory> {
 
 /// What the name is bound to.
 fn newest_value(alloc: Global) -> Result<i64, NoMemory> {
-    let word = Word::from_vec(Vec::from_slice(alloc, b"x1")?);
+    let word = Word::from_vec(Vec::from_slice(alloc, b"x1")?)?;
     let env = bound_twice(alloc, &word)?;
     match env.get(&word) {
         Some(Value::Int(n)) => Ok(*n),

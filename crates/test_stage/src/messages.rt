@@ -24,7 +24,7 @@ fn words(alloc: Global) -> Result<Words, NoMemory> {
 
 /// The word of faults that have one.
 fn word(alloc: Global) -> Result<Word, NoMemory> {
-    Ok(Word::from_vec(Vec::from_slice(alloc, b"x1")?))
+    Word::from_vec(Vec::from_slice(alloc, b"x1")?)
 }
 
 /// `table(bool)`

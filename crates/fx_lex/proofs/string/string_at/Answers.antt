@@ -1,10 +1,20 @@
-use Rattle.std.proofs.Common.{◌+◌, take, drop, sym, ap, ◌∙◌, subst, arith}
+use Rattle.std.proofs.Common.{◌≡◌, ◌+◌, ◌-◌, take, drop, sym, ap, ◌∙◌, subst, arith}
+use Rattle.std.specs.List.{prefix_len}
 use Rattle.std.proofs.lemmas.List.{take_rest}
 use Rattle.fx_lex.specs.declared.token.Token.TheVariants as token
 use Rattle.fx_lex.specs.Reading.{StandsAt}
-use Rattle.fx_lex.specs.Items.{first_item}
-use Rattle.fx_lex.proofs.Strings.{StringSoFar, item_is, string_goes_on, string_stands, string_none, head_no_quote, end_is_open}
+use Rattle.fx_lex.specs.Items.{is_plain, first_item}
+use Rattle.fx_lex.proofs.Strings.{StringSoFar, string_runs, item_is, string_goes_on, string_stands, string_none, head_no_quote, end_is_open}
 use Rattle.fx_lex.proofs.string.string_at.Goals as goal
+
+-- the bytes behind the quote that stand for themselves
+pub loop-at-init : goal.loop-at-init
+loop-at-init c =
+    let bytes = c.args.bytes.now in
+    let n = c.plain_len-plain.result in
+    let runs = string_runs bytes n c.requires.some c.requires.quote (c.plain_len-plain.ensures.run ∙ ap (λ l. prefix_len is_plain l) (take_rest bytes 1)) in
+    let size : 1 + n - 1 ≡ n = omega arith in
+    subst (λ v. StringSoFar bytes (1 + n) v) (sym (c.in_ok-value.ensures.items ∙ ap (λ m. take m (drop 1 bytes)) size)) runs
 
 pub returns-then-bytes-at-eq34 : goal.returns-then-bytes-at-eq34
 returns-then-bytes-at-eq34 c =
