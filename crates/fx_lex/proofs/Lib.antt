@@ -6,4 +6,5 @@ pub mod Runs
 pub mod Stands
 pub mod Steps
 pub mod Strings
+pub mod Table
 pub mod Unique

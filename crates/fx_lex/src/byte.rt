@@ -1,31 +1,55 @@
 ghost use Rattle.std.specs.Prelude.{◌≡◌};
 ghost use Rattle.std.specs.List.{prefix_len};
-ghost use Rattle.fx_expr.specs.Bytes.{begins_word, is_word_byte};
+ghost use Rattle.fx_expr.specs.Bytes.{is_word_byte};
+ghost use Rattle.fx_lex.specs.Kinds.{byte_kind};
 ghost use Rattle.fx_lex.specs.Spelling.{is_digit};
-ghost use Rattle.fx_lex.specs.Reading.{is_blank, is_within_line};
+ghost use Rattle.fx_lex.specs.Reading.{is_within_line};
 
-pub(crate) fn is_blank(b: u8) -> bool
-    ensures { result ≡ is_blank b }
+// What a byte begins.
+pub(crate) const BLANK: u8 = 0;
+
+pub(crate) const COMMENT: u8 = 1;
+
+pub(crate) const WORD: u8 = 2;
+
+pub(crate) const NUMBER: u8 = 3;
+
+pub(crate) const STRING: u8 = 4;
+
+pub(crate) const MARK: u8 = 5;
+
+// What each byte begins, 32 bytes a row.
+static KINDS: [u8; 256] = [
+    5, 5, 5, 5, 5, 5, 5, 5, 5, 0, 0, 5, 5, 0, 5, 5, 5, 5, 5, 5, 5, 5, 5, 5, 5, 5, 5, 5, 5, 5, 5, 5,
+    0, 5, 4, 1, 5, 5, 5, 5, 5, 5, 5, 5, 5, 5, 5, 5, 3, 3, 3, 3, 3, 3, 3, 3, 3, 3, 5, 5, 5, 5, 5, 5,
+    5, 2, 2, 2, 2, 2, 2, 2, 2, 2, 2, 2, 2, 2, 2, 2, 2, 2, 2, 2, 2, 2, 2, 2, 2, 2, 2, 5, 5, 5, 5, 2,
+    5, 2, 2, 2, 2, 2, 2, 2, 2, 2, 2, 2, 2, 2, 2, 2, 2, 2, 2, 2, 2, 2, 2, 2, 2, 2, 2, 5, 5, 5, 5, 5,
+    5, 5, 5, 5, 5, 5, 5, 5, 5, 5, 5, 5, 5, 5, 5, 5, 5, 5, 5, 5, 5, 5, 5, 5, 5, 5, 5, 5, 5, 5, 5, 5,
+    5, 5, 5, 5, 5, 5, 5, 5, 5, 5, 5, 5, 5, 5, 5, 5, 5, 5, 5, 5, 5, 5, 5, 5, 5, 5, 5, 5, 5, 5, 5, 5,
+    5, 5, 5, 5, 5, 5, 5, 5, 5, 5, 5, 5, 5, 5, 5, 5, 5, 5, 5, 5, 5, 5, 5, 5, 5, 5, 5, 5, 5, 5, 5, 5,
+    5, 5, 5, 5, 5, 5, 5, 5, 5, 5, 5, 5, 5, 5, 5, 5, 5, 5, 5, 5, 5, 5, 5, 5, 5, 5, 5, 5, 5, 5, 5, 5,
+];
+
+/// What a byte begins: [`MARK`] if it begins nothing else.
+#[tactic(auto, using(crate::proofs::Table::kind_at))]
+pub(crate) fn kind_of(b: u8) -> u8
+    ensures { result ≡ byte_kind b }
 {
-    b == b' ' || (b == b'\t' || (b == b'\n' || b == b'\r'))
+    KINDS[usize::from(b)]
 }
 
-pub(crate) fn begins_word(b: u8) -> bool
-    ensures { result ≡ begins_word b }
-{
-    b.is_ascii_uppercase() || (b.is_ascii_lowercase() || b == b'_')
-}
-
-pub(crate) fn is_digit(b: u8) -> bool
+fn is_digit(b: u8) -> bool
     ensures { result ≡ is_digit b }
 {
     b.is_ascii_digit()
 }
 
+#[tactic(auto, using(crate::proofs::Table::word_kind))]
 fn is_word_byte(b: u8) -> bool
     ensures { result ≡ is_word_byte b }
 {
-    begins_word(b) || is_digit(b)
+    let kind = kind_of(b);
+    kind == WORD || kind == NUMBER
 }
 
 /// How many bytes at the front are letters, digits or `_`.

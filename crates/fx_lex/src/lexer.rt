@@ -12,9 +12,6 @@ use fx_expr::Word;
 use std::alloc::Global;
 use std::sync::ArcSlice;
 
-/// The most tokens that there is room for before the first one is read. More room comes with the tokens.
-const ROOM: usize = 16_384;
-
 /// The tokens of a text of at most [`SOURCE_LIMIT`](fx_base::SOURCE_LIMIT) bytes, each with its span. Blanks and comments separate them, and at each
 /// other place the longest token is taken. A run of digits is one number, and a run of word bytes that begins with a
 /// letter or `_` is one word: a number that is too large or has a leading zero, and a word that is too long, are
@@ -33,7 +30,7 @@ pub fn lex(alloc: Global, text: &[u8]) -> Result<Tokens, LexFault>
         IsErrAnd result (λ e. (e ≡ LexFault.BadToken place) ⊎ (e ≡ LexFault.NoMemory)) }
 {
     let shared = ArcSlice::from_slice(alloc, text)?;
-    let mut items = Vec::with_capacity(alloc, (text.len() / 4).min(ROOM))?;
+    let mut items = Vec::with_capacity(alloc, text.len() / 2)?;
     let mut at = 0;
     while at < text.len() {
         match found_at(alloc, &text[at..])? {

@@ -5,7 +5,7 @@ ghost use Rattle.fx_lex.specs.Spelling.{is_digit};
 ghost use Rattle.fx_lex.specs.Kinds.{byte_kind};
 ghost use Rattle.fx_lex.specs.Found.{IsFoundAt};
 
-use crate::byte::{begins_word, digits_len, is_blank, is_digit, line_len, word_len};
+use crate::byte::{BLANK, COMMENT, NUMBER, STRING, WORD, digits_len, kind_of, line_len, word_len};
 use crate::mark::{mark_of_one, mark_of_two};
 use crate::number::number_of;
 use crate::string::string_at;
@@ -74,21 +74,12 @@ pub(crate) fn found_at(alloc: Global, bytes: &[u8]) -> Result<Found, NoMemory>
     requires short { length bytes.now ≤ source_limit }
     ensures { IfOk result (IsFoundAt bytes.now) }
 {
-    let first = bytes[0];
-    if is_blank(first) {
-        return Ok(Found::Gap(1));
+    match kind_of(bytes[0]) {
+        BLANK => Ok(Found::Gap(1)),
+        COMMENT => Ok(Found::Gap(line_len(bytes))),
+        WORD => Ok(word_at(bytes)),
+        NUMBER => Ok(number_at(bytes)),
+        STRING => string_at(alloc, bytes),
+        _ => Ok(mark_at(bytes)),
     }
-    if first == b'#' {
-        return Ok(Found::Gap(line_len(bytes)));
-    }
-    if begins_word(first) {
-        return Ok(word_at(bytes));
-    }
-    if is_digit(first) {
-        return Ok(number_at(bytes));
-    }
-    if first == b'"' {
-        return string_at(alloc, bytes);
-    }
-    Ok(mark_at(bytes))
 }

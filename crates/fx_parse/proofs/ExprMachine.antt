@@ -1,9 +1,9 @@
 -- The machine of expressions and shapes.
 use Rattle.std.proofs.Common.{◌≡◌, ℕ, suc, Bool, true, false, ◌⊎◌, inl, inr, Option, Some, None, List, [], ◌∷◌, ◌++◌, refl, sym, ap, ◌∙◌, subst}
-use Rattle.std.specs.Prelude.{find, nat_eq, is_none}
+use Rattle.std.specs.Prelude.{nat_eq, is_none}
 use Rattle.std.specs.Cmp.Lexicographic.{pointwise}
 use Rattle.std.proofs.lemmas.List.{append-nil}
-use Rattle.std.proofs.lemmas.Bool.{and_parts, and_from, cases_Bool, cond-true, cond-false}
+use Rattle.std.proofs.lemmas.Bool.{and_parts, and_from}
 use Rattle.fx_base.proofs.Orders.{nat_list_exact}
 use Rattle.fx_base.proofs.Results.{none_is}
 use Rattle.fx_expr.specs.ExprTree.{ExprTree}
@@ -20,6 +20,7 @@ use Rattle.fx_parse.specs.declared.keyword.Keyword.TheVariants as keyword
 use Rattle.fx_parse.specs.Keywords.{keyword_bytes, keyword_of, keywords}
 use Rattle.fx_parse.specs.Grammars.{word, opening, closing, comma, binary_token, unary_word, bool_word, expr_tokens, expr_levels, is_name, has_names, exprs}
 use Rattle.fx_parse.specs.Reader.{is_opening, is_closing, is_comma, Head, Leaf, Bracket, Before, Choice, Nothing, keyword_head, word_head, head_of, Middle, Binary, Glob, Neither, keyword_middle, mark_middle, word_middle, middle_of}
+use Rattle.fx_parse.proofs.Finds.{found_passes}
 use Rattle.fx_parse.proofs.KeywordLaws.{keyword_again}
 use Rattle.fx_parse.proofs.Machine.{Table, Runs, run_on, MeansAll, built}
 use Rattle.fx_parse.proofs.Tests.{passed, passed_step}
@@ -149,16 +150,6 @@ Means Close ts = ts ≡ closing ∷ []
 Means Comma ts = ts ≡ comma ∷ []
 
 -- bytes that are found among the kept words are those of the word
-found_passes : (p : Keyword → Bool) (ks : List Keyword) (k : Keyword) → find p ks ≡ Some k → p k ≡ true
-found_passes p [] k e = absurd cc
-found_passes p (x ∷ ks) k e = elim (cases_Bool (p x)) [
-  | inl here ↦
-      let both : Some x ≡ Some k = sym (cond-true (p x) (Some x) (find p ks) here) ∙ e in
-      let same : x ≡ k = cc in
-      ap p (sym same) ∙ here
-  | inr there ↦ found_passes p ks k (sym (cond-false (p x) (Some x) (find p ks) there) ∙ e)
-]
-
 pub keyword_spelled : (w : List ℕ) (k : Keyword) → keyword_of w ≡ Some k → token.Word w ≡ word k
 keyword_spelled w k e = ap token.Word (sym (nat_list_exact (keyword_bytes k) w (found_passes (λ k. pointwise nat_eq (keyword_bytes k) w) keywords k e)))
 

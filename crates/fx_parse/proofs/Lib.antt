@@ -1,5 +1,6 @@
+pub mod Finds
+pub mod FirstBytes
 pub mod KeywordLaws
-pub mod Lengths
 pub mod Machine
 pub mod Places
 pub mod ExprMachine

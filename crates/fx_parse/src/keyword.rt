@@ -1,5 +1,5 @@
-ghost use Rattle.std.specs.Prelude.{◌≡◌, ◌∷◌, nat_eq};
-ghost use Rattle.std.specs.Cmp.Lexicographic.{pointwise};
+ghost use Rattle.std.specs.Prelude.{◌≡◌};
+ghost use Rattle.fx_parse.specs.Beginnings.{beginning_with};
 ghost use Rattle.fx_parse.specs.Keywords.{found_in, keyword_bytes, keyword_of};
 
 /// A word that the language keeps for itself, so that it names nothing.
@@ -115,74 +115,6 @@ pub const KEYWORDS: [Keyword; 52] = [
     Keyword::Table,
 ];
 
-// The kept words of two to five bytes, and the longer ones.
-const OF_TWO: [Keyword; 5] = [
-    Keyword::In,
-    Keyword::If,
-    Keyword::Or,
-    Keyword::To,
-    Keyword::Up,
-];
-
-const OF_THREE: [Keyword; 13] = [
-    Keyword::Dir,
-    Keyword::Opt,
-    Keyword::And,
-    Keyword::Not,
-    Keyword::One,
-    Keyword::Int,
-    Keyword::Txn,
-    Keyword::Out,
-    Keyword::Top,
-    Keyword::Let,
-    Keyword::Set,
-    Keyword::Try,
-    Keyword::Str,
-];
-
-const OF_FOUR: [Keyword; 16] = [
-    Keyword::File,
-    Keyword::Link,
-    Keyword::Pred,
-    Keyword::Only,
-    Keyword::Else,
-    Keyword::Size,
-    Keyword::Text,
-    Keyword::Keys,
-    Keyword::True,
-    Keyword::Into,
-    Keyword::Next,
-    Keyword::Prev,
-    Keyword::Down,
-    Keyword::Each,
-    Keyword::Bool,
-    Keyword::Pair,
-];
-
-const OF_FIVE: [Keyword; 13] = [
-    Keyword::Union,
-    Keyword::Minus,
-    Keyword::Lines,
-    Keyword::First,
-    Keyword::False,
-    Keyword::Empty,
-    Keyword::Fetch,
-    Keyword::Value,
-    Keyword::Print,
-    Keyword::Store,
-    Keyword::Abort,
-    Keyword::Names,
-    Keyword::Table,
-];
-
-const LONGER: [Keyword; 5] = [
-    Keyword::Second,
-    Keyword::Present,
-    Keyword::Validate,
-    Keyword::Create,
-    Keyword::Remove,
-];
-
 impl Keyword {
     /// The word in bytes.
     pub fn bytes(self) -> &'static [u8]
@@ -245,43 +177,71 @@ impl Keyword {
     }
 }
 
-/// The kept word that these bytes are; None exactly where they are none. Only words of their length are tried.
+/// The kept word that these bytes are; None exactly where they are none. Only words that begin as they do are tried.
 pub fn keyword_of(word: &[u8]) -> Option<Keyword>
     ensures { result ≡ keyword_of word.now }
 {
-    let len = word.len();
-    match len {
-        2 => found(&OF_TWO, word),
-        3 => found(&OF_THREE, word),
-        4 => found(&OF_FOUR, word),
-        5 => found(&OF_FIVE, word),
-        6..=8 => found(&LONGER, word),
-        _ => None,
-    }
-}
-
-// Whether the bytes are this word. Most words differ in the first byte, so that is compared before the rest.
-fn is_spelled(keyword: Keyword, word: &[u8]) -> bool
-    ensures { result ≡ pointwise nat_eq (keyword_bytes keyword) word.now }
-{
-    match keyword.bytes() {
-        [first, rest @ ..] => begins_and_ends(*first, rest, word),
-        [] => word.is_empty(),
-    }
-}
-
-// Whether the bytes are this one and those behind it.
-fn begins_and_ends(first: u8, rest: &[u8], word: &[u8]) -> bool
-    ensures { result ≡ pointwise nat_eq (first ∷ rest.now) word.now }
-{
     match word {
-        [byte, behind @ ..] => {
-            if first != *byte {
-                return false;
-            }
-            rest == behind
-        }
-        [] => false,
+        [first, ..] => found(beginning_with(*first), word),
+        [] => None,
+    }
+}
+
+// The kept words that begin with this byte: those that texts have most, first.
+fn beginning_with(first: u8) -> &'static [Keyword]
+    ensures { result.now ≡ beginning_with first }
+{
+    match first {
+        b'a' => &[Keyword::And, Keyword::Abort],
+        b'b' => &[Keyword::Bool],
+        b'c' => &[Keyword::Create],
+        b'd' => &[Keyword::Dir, Keyword::Down],
+        b'e' => &[Keyword::Each, Keyword::Else, Keyword::Empty],
+        b'f' => &[
+            Keyword::File,
+            Keyword::Fetch,
+            Keyword::First,
+            Keyword::False,
+        ],
+        b'i' => &[Keyword::In, Keyword::Int, Keyword::If, Keyword::Into],
+        b'k' => &[Keyword::Keys],
+        b'l' => &[Keyword::Let, Keyword::Link, Keyword::Lines],
+        b'm' => &[Keyword::Minus],
+        b'n' => &[Keyword::Next, Keyword::Not, Keyword::Names],
+        b'o' => &[
+            Keyword::Or,
+            Keyword::Out,
+            Keyword::Opt,
+            Keyword::One,
+            Keyword::Only,
+        ],
+        b'p' => &[
+            Keyword::Pair,
+            Keyword::Prev,
+            Keyword::Pred,
+            Keyword::Print,
+            Keyword::Present,
+        ],
+        b'r' => &[Keyword::Remove],
+        b's' => &[
+            Keyword::Str,
+            Keyword::Store,
+            Keyword::Set,
+            Keyword::Size,
+            Keyword::Second,
+        ],
+        b't' => &[
+            Keyword::To,
+            Keyword::Txn,
+            Keyword::Text,
+            Keyword::Top,
+            Keyword::Try,
+            Keyword::True,
+            Keyword::Table,
+        ],
+        b'u' => &[Keyword::Union, Keyword::Up],
+        b'v' => &[Keyword::Value, Keyword::Validate],
+        _ => &[],
     }
 }
 
@@ -292,5 +252,5 @@ fn found(keywords: &[Keyword], word: &[u8]) -> Option<Keyword>
     keywords
         .iter()
         .copied()
-        .find(|keyword| is_spelled(*keyword, word))
+        .find(|keyword| keyword.bytes() == word)
 }

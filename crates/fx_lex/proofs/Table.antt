@@ -1,0 +1,57 @@
+-- What the kind of a byte tells, and the table of kinds.
+use Rattle.std.proofs.Common.{◌≡◌, ℕ, ◌<◌, ◌≤◌, Bool, true, false, cond, ◌||◌, eqb, map, get_or, refl, sym, ap, ◌∙◌, arith}
+use Rattle.std.specs.List.{range_with_len}
+use Rattle.std.proofs.lemmas.Bool.{eqb-true}
+use Rattle.std.proofs.lemmas.List.FromFn.{get_or-map-range_with_len}
+use Rattle.fx_expr.specs.Bytes.{begins_word, is_word_byte}
+use Rattle.fx_lex.specs.declared.byte.TheConstants.{KINDS}
+use Rattle.fx_lex.specs.Spelling.{is_digit}
+use Rattle.fx_lex.specs.Reading.{is_blank}
+use Rattle.fx_lex.specs.Kinds.{byte_kind}
+
+kinds_are : map byte_kind (range_with_len 0 256) ≡ KINDS
+kinds_are = refl
+
+pub kind_at : (b : ℕ) → b < 256 → get_or KINDS b 0 ≡ byte_kind b
+kind_at b below = ap (λ l. get_or l b 0) (sym kinds_are) ∙ get_or-map-range_with_len byte_kind 0 256 b b 0 below (omega arith)
+
+-- a byte of a word begins a word or a number
+word_kinds : map (λ b. eqb (byte_kind b) 2 || eqb (byte_kind b) 3) (range_with_len 0 256) ≡ map is_word_byte (range_with_len 0 256)
+word_kinds = refl
+
+pub word_kind : (b : ℕ) → b < 256 → (eqb (byte_kind b) 2 || eqb (byte_kind b) 3) ≡ is_word_byte b
+word_kind b below =
+    sym (get_or-map-range_with_len (λ b. eqb (byte_kind b) 2 || eqb (byte_kind b) 3) 0 256 b b false below (omega arith)) ∙ ap (λ l. get_or l b false) word_kinds ∙ get_or-map-range_with_len is_word_byte 0 256 b b false below (omega arith)
+
+-- the first of the tests that holds gives the kind
+abbrev Tells : ℕ → Bool → Bool → Bool → Bool → Bool → Type 0
+Tells k p q r s t = (k ≡ 0 → p ≡ true) × (k ≡ 1 → q ≡ true) × (k ≡ 2 → r ≡ true) × (k ≡ 3 → s ≡ true) × (k ≡ 4 → t ≡ true) × (k ≤ 5)
+
+told : (p q r s t : Bool) → Tells (cond p 0 (cond q 1 (cond r 2 (cond s 3 (cond t 4 5))))) p q r s t
+told true q r s t = (λ _. refl, λ e. absurd cc, λ e. absurd cc, λ e. absurd cc, λ e. absurd cc, omega arith)
+told false true r s t = (λ e. absurd cc, λ _. refl, λ e. absurd cc, λ e. absurd cc, λ e. absurd cc, omega arith)
+told false false true s t = (λ e. absurd cc, λ e. absurd cc, λ _. refl, λ e. absurd cc, λ e. absurd cc, omega arith)
+told false false false true t = (λ e. absurd cc, λ e. absurd cc, λ e. absurd cc, λ _. refl, λ e. absurd cc, omega arith)
+told false false false false true = (λ e. absurd cc, λ e. absurd cc, λ e. absurd cc, λ e. absurd cc, λ _. refl, omega arith)
+told false false false false false = (λ e. absurd cc, λ e. absurd cc, λ e. absurd cc, λ e. absurd cc, λ e. absurd cc, omega arith)
+
+all_told : (b : ℕ) → Tells (byte_kind b) (is_blank b) (eqb b 35) (begins_word b) (is_digit b) (eqb b 34)
+all_told b = told (is_blank b) (eqb b 35) (begins_word b) (is_digit b) (eqb b 34)
+
+pub blank_told : (b : ℕ) → byte_kind b ≡ 0 → is_blank b ≡ true
+blank_told b = (all_told b).0
+
+pub comment_told : (b : ℕ) → byte_kind b ≡ 1 → b ≡ 35
+comment_told b e = eqb-true b 35 ((all_told b).1 e)
+
+pub word_told : (b : ℕ) → byte_kind b ≡ 2 → begins_word b ≡ true
+word_told b = (all_told b).2
+
+pub number_told : (b : ℕ) → byte_kind b ≡ 3 → is_digit b ≡ true
+number_told b = (all_told b).3
+
+pub string_told : (b : ℕ) → byte_kind b ≡ 4 → b ≡ 34
+string_told b e = eqb-true b 34 ((all_told b).4 e)
+
+pub mark_told : (b : ℕ) → 5 ≤ byte_kind b → byte_kind b ≡ 5
+mark_told b e = omega (arith, e, (all_told b).5)
