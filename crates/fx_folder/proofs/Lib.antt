@@ -4,6 +4,7 @@ pub mod Counted
 mod DeepExamples
 pub mod Faulted
 pub mod Filled
+pub mod FolderLoads
 pub mod Answering
 pub mod Fronts
 pub mod Gathering
@@ -11,12 +12,15 @@ pub mod Growing
 pub mod Items
 pub mod Listings
 pub mod Loaded
+pub mod Marking
 pub mod Places
 pub mod Reading
 pub mod Refusals
 pub mod RoundTrip
+pub mod Standing
 pub mod TableRefusals
 pub mod Texts
 pub mod Walked
 pub mod Ways
+pub mod Within
 pub mod Writes

@@ -56,9 +56,8 @@ abbrev pub last_name : Parts → List ℕ
 last_name names = slice_index_or names (length names - 1) []
 
 abbrev pub refused_kind : Parts → HostKind → Option FolderCause
-refused_kind names kind.File = None
-refused_kind names kind.Folder = None
 refused_kind names kind.Other = Some (Strange (place_of names))
+refused_kind names _ = None
 
 -- one file too large, or too many bytes in all, where so many may still be loaded
 abbrev pub refused_bytes : ℕ → Parts → List ℕ → Option FolderCause
@@ -81,9 +80,8 @@ first_refused nodes left (h ∷ hs) = option_or (refused_entry nodes left h) (fi
 
 -- a file, or a directory whose names are still to be listed
 abbrev pub node_of_kind : HostKind → List ℕ → Node
-node_of_kind kind.File bytes = File bytes false
 node_of_kind kind.Folder bytes = Dir []
-node_of_kind kind.Other bytes = File bytes false
+node_of_kind _ bytes = File bytes false
 
 -- the root, and files and directories with no names listed yet
 abbrev pub unlisted : List Held → List Mapped
@@ -116,8 +114,7 @@ lines_or_cause nodes left S text (Err number) = limited nodes left (lines_before
 abbrev pub table_file_lines : ℕ → ℕ → Store → HostKind → List ℕ → Result (List TableLine) FolderCause
 table_file_lines nodes left S kind.File text =
     cond (nat_lt most_in_table (length text)) (Err (TooLarge (place_of (table_name ∷ [])))) (lines_or_cause nodes left S text (read_body S text))
-table_file_lines nodes left S kind.Folder text = Err (Strange (place_of (table_name ∷ [])))
-table_file_lines nodes left S kind.Other text = Err (Strange (place_of (table_name ∷ [])))
+table_file_lines nodes left S _ text = Err (Strange (place_of (table_name ∷ [])))
 
 -- no table stands for no lines
 abbrev pub table_lines : ℕ → ℕ → Store → Option Entry → Result (List TableLine) FolderCause
@@ -159,9 +156,8 @@ table_entry [] = None
 table_entry (line ∷ lines) = Some (file (table_text (line ∷ lines)))
 
 abbrev pub is_table_place : Parts → Bool
-is_table_place [] = false
 is_table_place (name ∷ []) = bytes_eq name table_name
-is_table_place (name ∷ next ∷ names) = false
+is_table_place _ = false
 
 -- what stands in the folder of a filestore: its directories as folders, its files, and a table where it has links or a file is executable
 abbrev pub folder_entry : Nodes → Parts → Option Entry

@@ -3,6 +3,7 @@ pub mod DeepExamples
 pub mod Faults
 pub mod Folder
 pub mod Grown
+pub mod HasFolder
 pub mod Limits
 pub mod LoadLaws
 pub mod Loads

@@ -1,4 +1,4 @@
-use Rattle.fx_folder_laws.proofs.Standing.{loaded_folders_stay}
+use Rattle.fx_folder_laws.proofs.Saved.{loaded_folders_stay}
 use Rattle.fx_folder_laws.proofs.loaded_folders_stay.Goals as goal
 
 pub returns : goal.returns
