@@ -1,9 +1,5 @@
 -- A path at which a folder stands is fit.
-use Rattle.std.proofs.Common.{◌≡◌, List, ℕ, Bool, true, false, cond, None, refl, ap}
-use Rattle.std.specs.Option.{option_map_or}
-use Rattle.std.specs.FinMap.{get}
-use Rattle.fx_outside.specs.Path.{parts, is_fit}
-use Rattle.fx_outside.specs.Tree.{Tree, is_folder_at, is_folder_kind}
+use Rattle.fx_folder.proofs.Prelude.{◌≡◌, List, ℕ, Bool, true, false, cond, None, refl, ap, option_map_or, get, parts, is_fit, Tree, is_folder_at, is_folder_kind}
 
 pub folder_fit : (tree : Tree) (path : List ℕ) → is_folder_at tree path ≡ true → is_fit path ≡ true
 folder_fit tree path e = go (is_fit path) refl

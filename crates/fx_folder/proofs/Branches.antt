@@ -1,30 +1,7 @@
 -- What stands below a folder is, name by name of its listing, the entry of the name and what stands below that.
-use Rattle.std.proofs.Common.{◌≡◌, inl, inr, ℕ, Bool, true, false, not, cond, T, List, [], ◌∷◌, ◌++◌, map, Option, Some, None, option_map, refl, sym, ◌∙◌, ap, subst, append_assoc, append-nil}
-use Rattle.std.specs.Prelude.{⊤}
-use Rattle.std.specs.declared.cmp.Ordering.{Ordering}
-use Rattle.std.specs.declared.cmp.Ordering.TheVariants.{Less, Equal, Greater}
-use Rattle.std.specs.Ordering.{is_eq, is_lt, eq_by_cmp, ordering_then}
-use Rattle.std.specs.Cmp.{tied_itself}
-use Rattle.std.specs.Option.{option_and_then, option_map_or}
-use Rattle.std.specs.List.{filter_map, flat_map, cons_option}
-use Rattle.std.specs.FinMap.{get, entries, find, is_sorted, entries_sorted, get-entries}
-use Rattle.std.specs.FinMap.Entries.{below_all, same_entries}
-use Rattle.std.proofs.lemmas.Bool.{cases_Bool}
-use Rattle.std.proofs.lemmas.List.{map-append}
-use Rattle.std.proofs.lemmas.List.Elements.{filter-append}
-use Rattle.fx_store.proofs.PathLists.{rest_append, rest_is}
-use Rattle.fx_base.proofs.Names.{pushed_some, same_front}
-use Rattle.fx_outside.specs.declared.kind.HostKind.{HostKind}
-use Rattle.fx_outside.specs.Listing.{Names, name_cmp}
-use Rattle.fx_outside.specs.Path.{Parts, parts_cmp}
-use Rattle.fx_outside.specs.Tree.{Tree, Entry, IsWhole, Lists}
-use Rattle.fx_outside.proofs.Sorted.{both, first, second, is_less, less_test}
-use Rattle.fx_outside.proofs.Trees.{name_total, name_same, parts_total, parts_same, true_test}
-use Rattle.fx_folder.specs.declared.walking.Item.{Item}
-use Rattle.fx_table.specs.Places.{rest_of}
-use Rattle.fx_folder.specs.Deep.{Held, inside, held_below, all_below, walked, is_table_entry}
-use Rattle.fx_folder.specs.Walks.{item, items_of, item_path, in_table, bytes_in, held_of, below_names, branch, ahead, IsThere, AreThere}
+use Rattle.fx_folder.proofs.Prelude.{◌≡◌, inl, inr, ℕ, Bool, true, false, not, cond, T, List, [], ◌∷◌, ◌++◌, map, Option, Some, None, option_map, refl, sym, ◌∙◌, ap, subst, append_assoc, append-nil, ⊤, Ordering, Less, Equal, Greater, is_eq, is_lt, eq_by_cmp, ordering_then, tied_itself, option_and_then, option_map_or, filter_map, flat_map, cons_option, get, entries, find, is_sorted, entries_sorted, get-entries, below_all, same_entries, cases_Bool, map-append, filter-append, rest_append, rest_is, pushed_some, same_front, HostKind, Names, name_cmp, Parts, parts_cmp, Tree, Entry, IsWhole, Lists, both, first, second, is_less, less_test, name_total, name_same, parts_total, parts_same, true_test, Item, rest_of, Held, inside, held_below, all_below, walked, is_table_entry, item, items_of, item_path, in_table, bytes_in, held_of, below_names, branch, ahead, IsThere, AreThere}
 use Rattle.fx_folder.proofs.Filled.{none_below, none_in}
+use Rattle.fx_folder.proofs.Ordered.{none_behind}
 
 -- ---- what stands below a folder is sorted, and found by its names
 
@@ -67,10 +44,6 @@ root_below P (e ∷ es) = by (rest_of P e.0) refl (root_below P es)
     by (Some []) is rest = subst (λ o. T (below_all parts_cmp [] (cons_option (below_as o e.1) (filter_map (held_below P) es)))) (sym is) rest
     by (Some (n ∷ q)) is rest = subst (λ o. T (below_all parts_cmp [] (cons_option (below_as o e.1) (filter_map (held_below P) es)))) (sym is) rest
 
-not_found : {X : Type 0} (k : Parts) (es : List (Parts × X)) → T (below_all parts_cmp k es) → find parts_cmp k es ≡ None
-not_found k [] h = refl
-not_found k (e ∷ es) h = ap (λ o. cond (is_eq o) (Some e.1) (find parts_cmp k es)) (is_less _ (first (is_lt (parts_cmp k e.0)) _ h)) ∙ not_found k es (second (is_lt (parts_cmp k e.0)) _ h)
-
 apart_from : (P q r : Parts) → (rest_of P q ≡ Some r → ⊥) → eq_by_cmp parts_cmp (P ++ r) q ≡ false
 apart_from P q r never = elim (cases_Bool (eq_by_cmp parts_cmp (P ++ r) q)) [
   | inl same ↦
@@ -102,7 +75,7 @@ pub find_below : (t : Tree) (P : Parts) (n : List ℕ) (r : Parts) → find part
 find_below t P n r = find_in P n r (entries t) ∙ sym (get-entries t (P ++ n ∷ r))
 
 pub find_none : (t : Tree) (P : Parts) → find parts_cmp [] (all_below t P) ≡ None
-find_none t P = not_found [] (all_below t P) (root_below P (entries t))
+find_none t P = none_behind [] (all_below t P) (root_below P (entries t))
 
 -- ---- the branches of the names of a listing
 
@@ -187,7 +160,7 @@ module _ (t : Tree) (P : Parts) where
   find_blocks n r (e ∷ es) h = elim (cases_Bool (eq_by_cmp name_cmp n e.0)) [
     | inl same ↦
         let it : n ≡ e.0 = name_same n e.0 (true_test _ (sym same)) in
-        let none : (s : Parts) → find parts_cmp (n ∷ s) (blocks t P es) ≡ None = λ s. not_found (n ∷ s) (blocks t P es) (blocks_after n s es (subst (λ m. T (below_all name_cmp m es)) (sym it) (first (below_all name_cmp e.0 es) _ h))) in
+        let none : (s : Parts) → find parts_cmp (n ∷ s) (blocks t P es) ≡ None = λ s. none_behind (n ∷ s) (blocks t P es) (blocks_after n s es (subst (λ m. T (below_all name_cmp m es)) (sym it) (first (below_all name_cmp e.0 es) _ h))) in
         subst (λ m. find parts_cmp (n ∷ r) (block t P (m, e.1) ++ blocks t P es) ≡ found_at n r (Some e.1)) it (itself n e.1 (blocks t P es) none r)
         ∙ ap (λ b. found_at n r (cond b (Some e.1) (find name_cmp n es))) (sym same)
     | inr apart ↦

@@ -1,45 +1,11 @@
 -- The entries of a whole filestore's folder: in their order, and how many there are.
-use Rattle.std.proofs.Common.{◌≡◌, inl, inr, ℕ, ◌+◌, ◌≤◌, true, false, cond, T, List, [], ◌∷◌, length, sum_by, Option, Some, None, refl, sym, ◌∙◌, ap, subst, arith}
-use Rattle.std.specs.Ordering.{is_eq, is_lt, eq_by_cmp}
-use Rattle.std.specs.declared.cmp.Ordering.TheVariants.{Less, Equal, Greater}
-use Rattle.std.specs.declared.cmp.Ordering.{Ordering}
-use Rattle.std.specs.Option.{option_map}
-use Rattle.std.specs.List.{filter_map}
-use Rattle.std.specs.FinMap.{find, is_sorted}
-use Rattle.std.specs.FinMap.Entries.{below_all}
-use Rattle.std.proofs.lemmas.Bool.{cases_Bool}
-use Rattle.std.proofs.lemmas.List.Sums.{sum_by-cons}
-use Rattle.fx_outside.specs.Tree.{Entry, file, folder}
-use Rattle.fx_outside.proofs.Sorted.{both, first, second}
-use Rattle.fx_store.specs.declared.node.Node.{Node}
-use Rattle.fx_store.specs.declared.node.Node.TheVariants.{File, Dir, Link}
-use Rattle.fx_store.specs.Names.{path_cmp}
-use Rattle.fx_store.specs.Orders.{path_eq_same}
-use Rattle.fx_folder.specs.Places.{host_entry}
-use Rattle.fx_table.specs.declared.line.TableLine.{TableLine}
-use Rattle.fx_table.specs.Table.{TableLink, line_at, links_among}
-use Rattle.fx_folder.specs.Deep.{Held, all_bytes}
-use Rattle.fx_table.specs.Listed.{Mapped}
-use Rattle.fx_folder.specs.LoadLaws.{counted_bytes, sizes_of}
-use Rattle.fx_table.proofs.Shapes.{found}
+use Rattle.fx_folder.proofs.Prelude.{◌≡◌, inl, inr, ℕ, ◌+◌, ◌≤◌, true, false, cond, T, List, [], ◌∷◌, length, sum_by, Option, Some, None, refl, sym, ◌∙◌, ap, subst, arith, is_lt, eq_by_cmp, option_map, filter_map, find, is_sorted, below_all, cases_Bool, sum_by-cons, Entry, file, folder, both, first, second, Node, File, Dir, Link, path_cmp, path_eq_same, host_entry, TableLine, TableLink, line_at, links_among, Held, all_bytes, Mapped, counted_bytes, sizes_of, found}
+pub use Rattle.fx_folder.proofs.Ordered.{none_behind}
 
 abbrev Paths : Type 0
 Paths = List (List ℕ)
 
 -- ---- what is found behind a path
-
-absurd_less : (o : Ordering) → T (is_lt o) → is_eq o ≡ true → ⊥
-absurd_less Less less e = cc
-absurd_less Equal less e = less
-absurd_less Greater less e = less
-
--- nothing is found at a path that comes before all of a list
-pub none_behind : {X : Type 0} (k : Paths) (es : List (Paths × X)) → T (below_all path_cmp k es) → find path_cmp k es ≡ None
-none_behind k [] h = refl
-none_behind k (e ∷ es) h = elim (cases_Bool (eq_by_cmp path_cmp k e.0)) [
-  | inl same ↦ absurd (absurd_less (path_cmp k e.0) (first (is_lt (path_cmp k e.0)) _ h) same)
-  | inr other ↦ ap (λ b. cond b (Some e.1) (find path_cmp k es)) other ∙ none_behind k es (second (is_lt (path_cmp k e.0)) _ h)
-]
 
 -- a path that ties with the first is not found again
 pub none_again : (p : Paths) (node : Node) (es : List Mapped) → T (is_sorted path_cmp ((p, node) ∷ es)) → (q : Paths) → eq_by_cmp path_cmp q p ≡ true → found es q ≡ None

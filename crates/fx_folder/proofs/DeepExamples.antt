@@ -1,9 +1,8 @@
 -- The examples of folders of some depth, computed.
-use Rattle.std.proofs.Common.{refl}
+use Rattle.fx_folder.proofs.Prelude.{refl, DeepExamples}
 use Rattle.std.specs.Str.{is_utf8, chars}
 use lib.Utf8.{encode}
 use Rattle.fx_store.specs.Names.{is_name}
-use Rattle.fx_folder.specs.DeepExamples.{DeepExamples}
 
 pub deep_examples : DeepExamples
 unfolding is_name is_utf8 chars encode

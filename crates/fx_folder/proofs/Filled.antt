@@ -1,24 +1,7 @@
 -- What stands below a place of a host's tree, and a folder that is ready to be filled.
-use Rattle.std.proofs.Common.{◌≡◌, ◌≢◌, ℕ, Bool, true, false, not, ◌==◌, cond, ◌&&◌, ◌||◌, List, [], ◌∷◌, ◌++◌, length, Option, Some, None, refl, sym, ◌∙◌, ap, subst, arith, append_assoc}
-use Rattle.std.specs.Ordering.{is_eq, eq_by_cmp}
-use Rattle.std.specs.Cmp.{tied_itself}
-use Rattle.std.specs.List.{list_all}
-use Rattle.std.specs.Option.{option_map_or}
-use Rattle.std.specs.FinMap.{get, get-insert}
-use Rattle.std.proofs.lemmas.Bool.Decides.{nat_tests}
-use Rattle.std.proofs.lemmas.List.Splits.{length-slice_split}
-use Rattle.fx_base.proofs.Booleans.{fifth_true}
-use Rattle.fx_base.proofs.Results.{chosen_some, none_if_never}
-use Rattle.fx_base.proofs.Names.{pushed_some, above_pushed}
-use Rattle.fx_outside.specs.declared.kind.HostKind.{HostKind}
+use Rattle.fx_folder.proofs.Prelude.{◌≡◌, ◌≢◌, ℕ, Bool, true, false, not, ◌==◌, cond, ◌&&◌, ◌||◌, List, [], ◌∷◌, ◌++◌, length, Option, Some, None, refl, sym, ◌∙◌, ap, subst, arith, append_assoc, is_eq, eq_by_cmp, tied_itself, list_all, option_map_or, get, get-insert, nat_tests, length-slice_split, fifth_true, chosen_some, none_if_never, pushed_some, above_pushed, HostKind, Parts, parts, parts_cmp, above, is_fit, is_fit_part, has_no_slash, Tree, Entry, folder, has_folder, entry_at, is_folder_kind, is_file_kind, parts_total, longer, IsReady, with_folder, IsOpen}
 use Rattle.fx_outside.specs.declared.kind.HostKind.TheVariants as kinds
-use Rattle.fx_outside.specs.Path.{Parts, parts, parts_cmp, above, is_fit, is_fit_part, has_no_slash}
 use Rattle.fx_outside.specs.Tree as tree
-use Rattle.fx_outside.specs.Tree.{Tree, Entry, folder, has_folder, entry_at, is_folder_kind, is_file_kind}
-use Rattle.fx_outside.proofs.Trees.{parts_total}
-use Rattle.fx_table.proofs.Rests.{longer}
-use Rattle.fx_folder.specs.Folder.{IsReady}
-use Rattle.fx_folder.specs.Written.{with_folder, IsOpen}
 
 -- below a place where nothing stands, nothing stands
 
@@ -44,6 +27,11 @@ stands_in t whole at n e is =
     let placed = whole.placed p e is in
     let around = fourth (not (length p == 0)) (list_all is_fit_part p) (list_all has_no_slash p) (has_folder t (above p)) (is_file_kind e.kind || length e.bytes == 0) placed in
     subst (λ q. has_folder t q ≡ true) (above_pushed at n) around
+
+-- below the root a folder stands where its entry does
+pub folder_entry_is : (t : Tree) (P : Parts) (n : List ℕ) (r : Parts) → has_folder t (P ++ n ∷ r) ≡ option_map_or (λ x. is_folder_kind x.kind) (get t (P ++ n ∷ r)) false
+folder_entry_is t [] n r = refl
+folder_entry_is t (p ∷ P) n r = refl
 
 -- a place with no entry has none in it
 pub none_in : (t : Tree) → tree.IsWhole t → (at : Parts) → at ≢ [] → get t at ≡ None → (n : List ℕ) → get t (at ++ n ∷ []) ≡ None

@@ -1,38 +1,11 @@
 -- The first of a filestore's nodes in a host's tree: one after another, and what stands there once the writing ends.
-use Rattle.std.proofs.Common.{◌≡◌, ◌⊎◌, inl, inr, ℕ, Bool, true, false, cond, ◌&&◌, ◌||◌, T, List, [], ◌∷◌, ◌++◌, is_none, is_some, Option, Some, None, IsSome, IsTrue, refl, sym, ◌∙◌, ap, subst, append_assoc, append-nil}
-use Rattle.std.specs.declared.cmp.Ordering.TheVariants.{Less}
-use Rattle.std.specs.Ordering.{is_eq, is_lt, eq_by_cmp}
-use Rattle.std.specs.Cmp.{tied_itself}
-use Rattle.std.specs.Cmp.Lexicographic.{texts_ties}
-use Rattle.std.specs.Option.{option_map_or, option_or}
-use Rattle.std.specs.FinMap.{entries, entries_sorted, get, get-entries, get-insert, insert, find, is_sorted}
-use Rattle.std.specs.FinMap.Entries.{below_all, find-append}
-use Rattle.std.proofs.lemmas.Bool.{cases_Bool, false≢true}
-use Rattle.std.proofs.lemmas.List.Elements.{All-head}
-use Rattle.std.proofs.lemmas.Option.{same_Some}
-use Rattle.fx_base.proofs.Orders.{then_greater, then_equal_ties}
-use Rattle.fx_base.proofs.Names.{not_before_itself, above_pushed, same_front, path_is}
-use Rattle.fx_store.specs.declared.node.Node.{Node}
-use Rattle.fx_store.specs.declared.node.Node.TheVariants.{Dir}
-use Rattle.fx_store.specs.Names.{name_cmp, path_cmp, is_name, IsName}
-use Rattle.fx_store.specs.Whole.{Nodes, IsWhole}
-use Rattle.fx_store.proofs.Landings.{listing_is_dir}
-use Rattle.fx_store.proofs.PathLists.{rest_is}
-use Rattle.fx_outside.specs.Path.{Parts, parts, parts_cmp, above, is_fit}
+use Rattle.fx_folder.proofs.Prelude.{◌≡◌, ◌⊎◌, inl, inr, ℕ, Bool, true, false, cond, ◌&&◌, ◌||◌, T, List, [], ◌∷◌, ◌++◌, is_none, is_some, Option, Some, None, IsSome, IsTrue, refl, sym, ◌∙◌, ap, subst, append_assoc, append-nil, Less, is_eq, is_lt, eq_by_cmp, tied_itself, texts_ties, option_map_or, option_or, entries, entries_sorted, get, get-entries, get-insert, insert, find, is_sorted, below_all, find-append, cases_Bool, false≢true, All-head, same_Some, then_greater, then_equal_ties, not_before_itself, above_pushed, same_front, path_is, Node, Dir, path_cmp, is_name, IsName, Nodes, listing_is_dir, rest_is, Parts, parts, parts_cmp, above, is_fit, Tree, Entry, folder, has_folder, is_folder_kind, is_free, is_free_at, both, first, second, is_less, less_test, parts_total, host_entry, rest_of, table_name, lines_of, folder_entry, is_table_place, table_entry, IsReady, IsSaved, IsPartOf, IsPartlySaved, IsFrontOf, entry_or, is_written_before, with_folder, MadePart, IsOpen, with_entry, WrotePart, HasEntries, WroteFront, no_rest, not_at, find_append, root_first, none_if_never}
+use Rattle.fx_store.specs.Names.{name_cmp}
+use Rattle.fx_store.specs.Whole.{IsWhole}
 use Rattle.fx_outside.specs.Tree as tree
-use Rattle.fx_outside.specs.Tree.{Tree, Entry, folder, has_folder, is_folder_kind, is_free, is_free_at}
-use Rattle.fx_outside.proofs.Sorted.{both, first, second, is_less, less_test}
-use Rattle.fx_outside.proofs.Trees.{parts_total}
-use Rattle.fx_folder.specs.Places.{host_entry}
-use Rattle.fx_table.specs.Places.{rest_of, table_name}
-use Rattle.fx_table.specs.Table.{lines_of}
-use Rattle.fx_folder.specs.Deep.{folder_entry, is_table_place, table_entry}
-use Rattle.fx_folder.specs.Folder.{IsReady, IsSaved, IsPartOf, IsPartlySaved, IsFrontOf, entry_or, is_written_before}
-use Rattle.fx_folder.specs.Written.{with_folder, MadePart, IsOpen, with_entry, WrotePart, HasEntries, WroteFront}
 use Rattle.fx_folder.proofs.Filled.{beside_folder, opens}
 use Rattle.fx_folder.proofs.Items.{reserved}
-use Rattle.fx_table.proofs.Rests.{no_rest, not_at}
-use Rattle.fx_table.proofs.Descents.{find_append, root_first}
+use Rattle.fx_folder.proofs.Ordered.{none_behind, sorted_end, or_none, last_of}
 
 abbrev Path : Type 0
 Path = List (List ℕ)
@@ -41,11 +14,6 @@ abbrev Mapped : Type 0
 Mapped = Path × Node
 
 -- lists in order
-
-found_below : (q : Path) (es : List Mapped) → T (below_all path_cmp q es) → find path_cmp q es ≡ None
-found_below q [] h = refl
-found_below q (e ∷ es) h =
-    ap (λ r. cond (is_eq r) (Some e.1) (find path_cmp q es)) (is_less _ (first (is_lt (path_cmp q e.0)) _ h)) ∙ found_below q es (second (is_lt (path_cmp q e.0)) _ h)
 
 below_less : (x y : Path) (es : List Mapped) → path_cmp x y ≡ Less → T (below_all path_cmp y es) → T (below_all path_cmp x es)
 below_less x y [] less h = tt
@@ -57,10 +25,6 @@ below_later : (x : Path) (es fs : List Mapped) → T (below_all path_cmp x (es +
 below_later x [] fs h = h
 below_later x (e ∷ es) fs h = below_later x es fs (second (is_lt (path_cmp x e.0)) _ h)
 
-sorted_later : (es fs : List Mapped) → T (is_sorted path_cmp (es ++ fs)) → T (is_sorted path_cmp fs)
-sorted_later [] fs h = h
-sorted_later (e ∷ es) fs h = sorted_later es fs (second (below_all path_cmp e.0 (es ++ fs)) _ h)
-
 before_later : (es fs : List Mapped) (q : Path) (x : Node) → T (is_sorted path_cmp (es ++ fs)) → find path_cmp q es ≡ Some x → T (below_all path_cmp q fs)
 before_later [] fs q x h found = cc
 before_later (e ∷ es) fs q x h found = elim (cases_Bool (eq_by_cmp path_cmp q e.0)) [
@@ -69,10 +33,6 @@ before_later (e ∷ es) fs q x h found = elim (cases_Bool (eq_by_cmp path_cmp q 
   | inr apart ↦
       before_later es fs q x (second (below_all path_cmp e.0 (es ++ fs)) _ h) (ap (λ b. cond b (Some e.1) (find path_cmp q es)) (sym apart) ∙ found)
 ]
-
-or_none : (o : Option Node) → option_or o None ≡ o
-or_none None = refl
-or_none (Some x) = refl
 
 module _ (nodes : Nodes) (done left : List Mapped) (split : entries nodes ≡ done ++ left) where
   in_order : T (is_sorted path_cmp (done ++ left))
@@ -87,7 +47,7 @@ module _ (nodes : Nodes) (done left : List Mapped) (split : entries nodes ≡ do
 
   before_left : (q : Path) (x : Node) → get nodes q ≡ Some x → T (below_all path_cmp q left) → find path_cmp q done ≡ Some x
   before_left q x is below =
-      sym (or_none (find path_cmp q done)) ∙ ap (option_or (find path_cmp q done)) (sym (found_below q left below)) ∙ sym (in_either q) ∙ is
+      sym (or_none (find path_cmp q done)) ∙ ap (option_or (find path_cmp q done)) (sym (none_behind q left below)) ∙ sym (in_either q) ∙ is
 
   -- a node before one of the front is of the front
   pub before_front : (b q : Path) (x y : Node) → find path_cmp q done ≡ Some x → path_cmp b q ≡ Less → get nodes b ≡ Some y → find path_cmp b done ≡ Some y
@@ -96,18 +56,14 @@ module _ (nodes : Nodes) (done left : List Mapped) (split : entries nodes ≡ do
 module _ (nodes : Nodes) (done rest : List Mapped) (path : Path) (node : Node) (split : entries nodes ≡ done ++ (path, node) ∷ rest) where
   -- the next node is not among them
   pub fresh : find path_cmp path done ≡ None
-  fresh = go (find path_cmp path done) refl
-    where
-      go : (o : Option Node) → find path_cmp path done ≡ o → o ≡ None
-      go None e = refl
-      go (Some x) e =
-          let below = before_later done ((path, node) ∷ rest) path x (in_order nodes done ((path, node) ∷ rest) split) e in
-          absurd (not_before_itself path (is_less _ (first (is_lt (path_cmp path path)) _ below)))
+  fresh = none_if_never _ λ x e.
+      let below = before_later done ((path, node) ∷ rest) path x (in_order nodes done ((path, node) ∷ rest) split) e in
+      not_before_itself path (is_less _ (first (is_lt (path_cmp path path)) _ below))
 
   -- a node before it is
   pub before_next : (b : Path) (y : Node) → path_cmp b path ≡ Less → get nodes b ≡ Some y → find path_cmp b done ≡ Some y
   before_next b y less is =
-      let sorted = sorted_later done ((path, node) ∷ rest) (in_order nodes done ((path, node) ∷ rest) split) in
+      let sorted = sorted_end done ((path, node) ∷ rest) (in_order nodes done ((path, node) ∷ rest) split) in
       before_left nodes done ((path, node) ∷ rest) split b y is
       (both (is_lt (path_cmp b path)) _ (less_test _ less) (below_less b path rest less (first (below_all path_cmp path rest) _ sorted)))
 
@@ -137,10 +93,6 @@ begins_inside t path names is (a ∷ r) = is.empty a r
 pub begins : (t : Tree) (path : List ℕ) (names : List (List ℕ)) → IsOpen t path → HasEntries t t (parts path) (([], Dir names) ∷ [])
 begins t path names is = record { outside = λ q none. refl; inside = begins_inside t path names is }
 
-or_new : (h : Option Entry) → option_or h None ≡ h
-or_new None = refl
-or_new (Some e) = refl
-
 -- one node more
 pub adds : (t u v : Tree) (at : Parts) (done : List Mapped) (path : Path) (node : Node) → HasEntries t u at done → find path_cmp path done ≡ None → v ≡ with_entry u (at ++ path) (host_entry (Some node)) → HasEntries t v at (done ++ (path, node) ∷ [])
 adds t u v at done path node has none added = record {
@@ -157,7 +109,7 @@ adds t u v at done path node has none added = record {
       | inl same ↦
           let gone : find path_cmp p done ≡ None = ap (λ q. find path_cmp q done) (path_is p path same) ∙ none in
           ap (λ b. cond b (option_or (host_entry (Some node)) (host_entry (find path_cmp p done))) (host_entry (find path_cmp p done))) same
-          ∙ ap (λ o. option_or (host_entry (Some node)) (host_entry o)) gone ∙ or_new (host_entry (Some node))
+          ∙ ap (λ o. option_or (host_entry (Some node)) (host_entry o)) gone ∙ or_none (host_entry (Some node))
           ∙ sym (ap (λ b. host_entry (cond b (Some node) (find path_cmp p done))) same)
       | inr apart ↦
           ap (λ b. cond b (option_or (host_entry (Some node)) (host_entry (find path_cmp p done))) (host_entry (find path_cmp p done))) apart
@@ -174,14 +126,10 @@ from_old t0 t u at there es made has = record {
 -- the place of the table
 
 pub no_table : (nodes : Nodes) → IsWhole (get nodes) → get nodes (table_name ∷ []) ≡ None
-no_table nodes whole = go (get nodes (table_name ∷ [])) refl
-  where
-    go : (o : Option Node) → get nodes (table_name ∷ []) ≡ o → o ≡ None
-    go None e = refl
-    go (Some node) e =
-        let path = whole.paths (table_name ∷ []) (ap is_some e) in
-        let valid : is_name table_name ≡ true = All-head IsName table_name [] path.names in
-        absurd (false≢true (sym reserved ∙ valid))
+no_table nodes whole = none_if_never _ λ node e.
+    let path = whole.paths (table_name ∷ []) (ap is_some e) in
+    let valid : is_name table_name ≡ true = All-head IsName table_name [] path.names in
+    false≢true (sym reserved ∙ valid)
 
 table_place : (p : Parts) → eq_by_cmp path_cmp p (table_name ∷ []) ≡ is_table_place p
 table_place [] = refl
@@ -251,51 +199,58 @@ module _ (nodes : Nodes) (whole : IsWhole (get nodes)) (t u : Tree) (at : Parts)
     ordered = λ p b e w here before has_w. (front_before done left split has p b (inside_front done left split has p e here).0 w (inside_front done left split has p e here).1 before has_w).2;
   }
 
-  -- the next node, or a front of its file
-  pub begun_part : (done rest : List Mapped) (path : Parts) (node : Node) → entries nodes ≡ done ++ (path, node) ∷ rest → HasEntries t u at done → (v : Tree) (e whole_e : Entry) → host_entry (Some node) ≡ Some whole_e → (e ≡ whole_e) ⊎ IsFrontOf e whole_e → v ≡ insert u (at ++ path) e → IsPartOf t v at nodes path
-  begun_part done rest path node split has v e whole_e is front added = record {
-    outside = λ q miss. apart q (no_rest at q path miss) ∙ has.outside q miss;
-    inside = λ p d here. elim (cases_Bool (eq_by_cmp path_cmp p path)) [
-      | inl same ↦ (whole_e, at_next p same, at_last p d same here)
-      | inr other ↦ let is = inside_front done ((path, node) ∷ rest) split has p d (sym (apart (at ++ p) (same_place at p path ∙ other)) ∙ here) in (d, is.2, inl refl)
+  -- an entry more, or a front of it, where all that is written before it stands there
+  put_part : (last : Parts) (v : Tree) (e whole_e : Entry) → folder_entry nodes last ≡ Some whole_e → (e ≡ whole_e) ⊎ IsFrontOf e whole_e → v ≡ insert u (at ++ last) e → ((q : Parts) → rest_of at q ≡ None → get u q ≡ get t q)
+      → ((p : Parts) (d : Entry) → eq_by_cmp path_cmp p last ≡ false → get u (at ++ p) ≡ Some d → folder_entry nodes p ≡ Some d)
+      → ((p b : Parts) (d w : Entry) → (eq_by_cmp path_cmp p last ≡ true) ⊎ (get u (at ++ p) ≡ Some d) → IsTrue (is_written_before b p) → folder_entry nodes b ≡ Some w → (eq_by_cmp path_cmp b last ≡ false) × (get u (at ++ b) ≡ Some w)) → IsPartOf t v at nodes last
+  put_part last v e whole_e is front added out others before = record {
+    outside = λ q miss. apart q (no_rest at q last miss) ∙ out q miss;
+    inside = λ p d here. elim (cases_Bool (eq_by_cmp path_cmp p last)) [
+      | inl same ↦ (whole_e, ap (folder_entry nodes) (path_is p last same) ∙ is, at_last p d same here)
+      | inr other ↦ (d, others p d other (sym (apart (at ++ p) (same_place at p last ∙ other)) ∙ here), inl refl)
     ];
-    ordered = λ p b d w here before has_w.
-        let there = earlier p b d w here before has_w in
-        apart (at ++ b) (same_place at b path ∙ beside b there.0 there.1) ∙ there.2;
+    ordered = λ p b d w here sooner has_w.
+        let there = before p b d w (either p d here) sooner has_w in
+        apart (at ++ b) (same_place at b last ∙ there.0) ∙ there.1;
   }
     where
-      apart : (q : Parts) → eq_by_cmp parts_cmp q (at ++ path) ≡ false → get v q ≡ get u q
-      apart q other = ap (λ x. get x q) added ∙ get_apart u (at ++ path) (Some e) q other
+      apart : (q : Parts) → eq_by_cmp parts_cmp q (at ++ last) ≡ false → get v q ≡ get u q
+      apart q other = ap (λ x. get x q) added ∙ get_apart u (at ++ last) (Some e) q other
 
-      at_next : (p : Parts) → eq_by_cmp path_cmp p path ≡ true → folder_entry nodes p ≡ Some whole_e
-      at_next p same = ap (folder_entry nodes) (path_is p path same) ∙ node_entry nodes whole path node (the_next nodes done rest path node split) ∙ is
+      either : (p : Parts) (d : Entry) → get v (at ++ p) ≡ Some d → (eq_by_cmp path_cmp p last ≡ true) ⊎ (get u (at ++ p) ≡ Some d)
+      either p d here = elim (cases_Bool (eq_by_cmp path_cmp p last)) [
+        | inl same ↦ inl same
+        | inr other ↦ inr (sym (apart (at ++ p) (same_place at p last ∙ other)) ∙ here)
+      ]
 
-      the_entry : (p : Parts) (d : Entry) → eq_by_cmp path_cmp p path ≡ true → get v (at ++ p) ≡ Some d → d ≡ e
-      the_entry p d same here =
+      at_last : (p : Parts) (d : Entry) → eq_by_cmp path_cmp p last ≡ true → get v (at ++ p) ≡ Some d → (d ≡ whole_e) ⊎ ((p ≡ last) × IsFrontOf d whole_e)
+      at_last p d same here =
           let new : get v (at ++ p) ≡ Some e =
-          ap (λ x. get x (at ++ p)) added ∙ get-insert parts_total u (at ++ path) e (at ++ p)
-          ∙ ap (λ b. cond b (Some e) (get u (at ++ p))) (same_place at p path ∙ same) in
-          same_Some d e (sym here ∙ new)
+          ap (λ x. get x (at ++ p)) added ∙ get-insert parts_total u (at ++ last) e (at ++ p)
+          ∙ ap (λ b. cond b (Some e) (get u (at ++ p))) (same_place at p last ∙ same) in
+          let it : d ≡ e = same_Some d e (sym here ∙ new) in
+          elim front [
+            | inl full ↦ inl (it ∙ full)
+            | inr part ↦ inr (path_is p last same, subst (λ x. IsFrontOf x whole_e) (sym it) part)
+          ]
 
-      at_last : (p : Parts) (d : Entry) → eq_by_cmp path_cmp p path ≡ true → get v (at ++ p) ≡ Some d → (d ≡ whole_e) ⊎ ((p ≡ path) × IsFrontOf d whole_e)
-      at_last p d same here = elim front [
-        | inl it ↦ inl (the_entry p d same here ∙ it)
-        | inr part ↦ inr (path_is p path same, subst (λ x. IsFrontOf x whole_e) (sym (the_entry p d same here)) part)
-      ]
-
-      earlier : (p b : Parts) (d w : Entry) → get v (at ++ p) ≡ Some d → IsTrue (is_written_before b p) → folder_entry nodes b ≡ Some w → (y : Node) × (find path_cmp b done ≡ Some y) × (get u (at ++ b) ≡ Some w)
-      earlier p b d w here before has_w = elim (cases_Bool (eq_by_cmp path_cmp p path)) [
-        | inl same ↦
-            let y = node_of b w (not_table b p before) has_w in
-            let it : p ≡ path = path_is p path same in
-            let other = node_place nodes whole path node (the_next nodes done rest path node split) in
-            let less : path_cmp b path ≡ Less = in_path_order b path other (subst (λ x. IsTrue (is_written_before b x)) it before) in
-            let there = before_next nodes done rest path node split b y.0 less y.1 in
-            (y.0, there, has.inside b ∙ ap host_entry there ∙ y.2)
-        | inr other ↦
-            let is = inside_front done ((path, node) ∷ rest) split has p d (sym (apart (at ++ p) (same_place at p path ∙ other)) ∙ here) in
-            front_before done ((path, node) ∷ rest) split has p b is.0 w is.1 before has_w
-      ]
+  -- the next node, or a front of its file
+  pub begun_part : (done rest : List Mapped) (path : Parts) (node : Node) → entries nodes ≡ done ++ (path, node) ∷ rest → HasEntries t u at done → (v : Tree) (e whole_e : Entry) → host_entry (Some node) ≡ Some whole_e → (e ≡ whole_e) ⊎ IsFrontOf e whole_e → v ≡ insert u (at ++ path) e → IsPartOf t v at nodes path
+  begun_part done rest path node split has v e whole_e is front added =
+      put_part path v e whole_e (node_entry nodes whole path node (the_next nodes done rest path node split) ∙ is) front added has.outside
+      (λ p d other here. (inside_front done ((path, node) ∷ rest) split has p d here).2)
+      (λ p b d w there before has_w. let y = earlier p b d w there before has_w in (beside b y.0 y.1, y.2))
+    where
+      earlier : (p b : Parts) (d w : Entry) → (eq_by_cmp path_cmp p path ≡ true) ⊎ (get u (at ++ p) ≡ Some d) → IsTrue (is_written_before b p) → folder_entry nodes b ≡ Some w → (y : Node) × (find path_cmp b done ≡ Some y) × (get u (at ++ b) ≡ Some w)
+      earlier p b d w (inl same) before has_w =
+          let y = node_of b w (not_table b p before) has_w in
+          let other = node_place nodes whole path node (the_next nodes done rest path node split) in
+          let less : path_cmp b path ≡ Less = in_path_order b path other (subst (λ x. IsTrue (is_written_before b x)) (path_is p path same) before) in
+          let there = before_next nodes done rest path node split b y.0 less y.1 in
+          (y.0, there, has.inside b ∙ ap host_entry there ∙ y.2)
+      earlier p b d w (inr here) before has_w =
+          let is = inside_front done ((path, node) ∷ rest) split has p d here in
+          front_before done ((path, node) ∷ rest) split has p b is.0 w is.1 before has_w
 
       beside : (b : Parts) (y : Node) → find path_cmp b done ≡ Some y → eq_by_cmp path_cmp b path ≡ false
       beside b y found = elim (cases_Bool (eq_by_cmp path_cmp b path)) [
@@ -317,7 +272,7 @@ module _ (nodes : Nodes) (whole : IsWhole (get nodes)) (t u : Tree) (at : Parts)
         | inl hit ↦
             let none : get nodes p ≡ None = ap (get nodes) (path_is p (table_name ∷ []) (table_place p ∙ hit)) ∙ no_table nodes whole in
             ap (λ o. cond (is_table_place p) (option_or (table_entry (lines_of nodes)) (host_entry o)) (host_entry (get nodes p))) none
-            ∙ ap (λ h. cond (is_table_place p) h (host_entry (get nodes p))) (or_new (table_entry (lines_of nodes)))
+            ∙ ap (λ h. cond (is_table_place p) h (host_entry (get nodes p))) (or_none (table_entry (lines_of nodes)))
         | inr miss ↦
             ap (λ b. cond b (option_or (table_entry (lines_of nodes)) (host_entry (get nodes p))) (host_entry (get nodes p))) miss
             ∙ sym (ap (λ b. cond b (table_entry (lines_of nodes)) (host_entry (get nodes p))) miss)
@@ -336,35 +291,10 @@ module _ (nodes : Nodes) (whole : IsWhole (get nodes)) (t u : Tree) (at : Parts)
 
   -- all nodes, and the table or a front of it
   pub table_part : HasEntries t u at (entries nodes) → (v : Tree) (e whole_e : Entry) → table_entry (lines_of nodes) ≡ Some whole_e → (e ≡ whole_e) ⊎ IsFrontOf e whole_e → v ≡ insert u (at ++ table_name ∷ []) e → IsPartOf t v at nodes (table_name ∷ [])
-  table_part has v e whole_e is front added = record {
-    outside = λ q miss. apart q (no_rest at q (table_name ∷ []) miss) ∙ has.outside q miss;
-    inside = λ p d here. elim (cases_Bool (is_table_place p)) [
-      | inl hit ↦ (whole_e, ap (λ b. cond b (table_entry (lines_of nodes)) (host_entry (get nodes p))) hit ∙ is, at_last p d hit here)
-      | inr miss ↦ (d, ap (λ b. cond b (table_entry (lines_of nodes)) (host_entry (get nodes p))) miss ∙ sym (all_inside has p) ∙ sym (apart (at ++ p) (place p ∙ miss)) ∙ here, inl refl)
-    ];
-    ordered = λ p b d w here before has_w.
-        let y = node_of b w (not_table b p before) has_w in
-        apart (at ++ b) (place b ∙ not_table b p before) ∙ all_inside has b ∙ ap host_entry y.1 ∙ y.2;
-  }
-    where
-      place : (p : Parts) → eq_by_cmp parts_cmp (at ++ p) (at ++ table_name ∷ []) ≡ is_table_place p
-      place p = same_place at p (table_name ∷ []) ∙ table_place p
-
-      apart : (q : Parts) → eq_by_cmp parts_cmp q (at ++ table_name ∷ []) ≡ false → get v q ≡ get u q
-      apart q other = ap (λ x. get x q) added ∙ get_apart u (at ++ table_name ∷ []) (Some e) q other
-
-      the_entry : (p : Parts) (d : Entry) → is_table_place p ≡ true → get v (at ++ p) ≡ Some d → d ≡ e
-      the_entry p d hit here =
-          let new : get v (at ++ p) ≡ Some e =
-          ap (λ x. get x (at ++ p)) added ∙ get-insert parts_total u (at ++ table_name ∷ []) e (at ++ p)
-          ∙ ap (λ b. cond b (Some e) (get u (at ++ p))) (place p ∙ hit) in
-          same_Some d e (sym here ∙ new)
-
-      at_last : (p : Parts) (d : Entry) → is_table_place p ≡ true → get v (at ++ p) ≡ Some d → (d ≡ whole_e) ⊎ ((p ≡ table_name ∷ []) × IsFrontOf d whole_e)
-      at_last p d hit here = elim front [
-        | inl it ↦ inl (the_entry p d hit here ∙ it)
-        | inr part ↦ inr (path_is p (table_name ∷ []) (table_place p ∙ hit), subst (λ x. IsFrontOf x whole_e) (sym (the_entry p d hit here)) part)
-      ]
+  table_part has v e whole_e is front added =
+      put_part (table_name ∷ []) v e whole_e is front added has.outside
+      (λ p d other here. ap (λ b. cond b (table_entry (lines_of nodes)) (host_entry (get nodes p))) (sym (table_place p) ∙ other) ∙ sym (all_inside has p) ∙ here)
+      (λ p b d w there before has_w. let y = node_of b w (not_table b p before) has_w in (table_place b ∙ not_table b p before, all_inside has b ∙ ap host_entry y.1 ∙ y.2))
 
 -- after a refusal a part of the folder stands
 
@@ -401,10 +331,6 @@ refused_folder nodes whole t u path there is can (inr made) =
 pub has_it : (t : Tree) (at : Parts) → get t at ≡ Some folder → has_folder t at ≡ true
 has_it t [] e = refl
 has_it t (a ∷ at) e = ap (λ o. option_map_or (λ x. is_folder_kind x.kind) o false) e
-
-last_of : (x : List ℕ) (xs : Path) → (front : Path) × (last : List ℕ) × (x ∷ xs ≡ front ++ last ∷ [])
-last_of x [] = ([], x, refl)
-last_of x (y ∷ ys) = let l = last_of y ys in (x ∷ l.0, l.1, ap (λ r. x ∷ r) l.2)
 
 pub free_place : (u : Tree) (text : List ℕ) (p : Parts) → is_fit text ≡ true → parts text ≡ p → get u p ≡ None → has_folder u (above p) ≡ true → is_free_at u text ≡ true
 free_place u text p fit is none around =

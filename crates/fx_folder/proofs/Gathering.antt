@@ -1,61 +1,11 @@
 -- What was walked, with the links of the table, is what the definition of loading gives.
-use Rattle.std.proofs.Common.{◌≡◌, inl, inr, ℕ, suc, ◌+◌, ◌-◌, ◌<◌, ◌≤◌, Bool, true, false, cond, ◌&&◌, ◌||◌, List, [], ◌∷◌, ◌++◌, map, length, Option, Some, None, Result, Ok, Err, IfOk, IfErr, IfSome, option_map, refl, sym, ◌∙◌, ap, subst, arith}
-use Rattle.std.specs.Prelude.{nat_lt, unwrap_or}
-use Rattle.std.specs.Option.{option_or, option_map_or}
-use Rattle.std.specs.Ordering.{eq_by_cmp}
-use Rattle.std.specs.List.{AllByRecursion}
-use Rattle.std.specs.List.Sorted.{IsStrictlySortedBy}
-use Rattle.std.specs.Map.{keys_of}
-use Rattle.std.specs.FinMap.{get, find}
-use Rattle.std.proofs.lemmas.Bool.Decides.{nat_tests}
-use Rattle.fx_outside.specs.declared.kind.HostKind.{HostKind}
+use Rattle.fx_folder.proofs.Prelude.{◌≡◌, inl, inr, ℕ, suc, ◌+◌, ◌-◌, ◌<◌, ◌≤◌, Bool, true, false, cond, ◌&&◌, ◌||◌, List, [], ◌∷◌, ◌++◌, map, length, Option, Some, None, Result, Ok, Err, IfOk, IfErr, IfSome, option_map, refl, sym, ◌∙◌, ap, subst, arith, nat_lt, unwrap_or, option_map_or, eq_by_cmp, AllByRecursion, IsStrictlySortedBy, keys_of, get, find, nat_tests, HostKind, Parts, parts, Names, Tree, Entry, Lists, entry_at, is_folder_at, is_file_at, is_file_kind, bytes_at, Global, Vec, some_of, neither_some, loads, AnswersAs, path_below, sorted_test, strictly_sorted, Node, File, Dir, Link, Change, IsChanges, changed_paths, change_at, path_cmp, IsPath, path_eq_same, Store, FolderCause, BadName, Strange, TooLarge, BadTable, LoadFault, Refused, ReadFault, NoMemory, Loader, Held, all_below, walked, table_in, all_bytes, first_refused, refused_entry, node_of_kind, unlisted, most_in_table, unless_bad, lacking, lines_or_cause, table_file_lines, linked, with_table, unless_refused, loaded, as_nodes, Mapped, listed, with_flag, with_flags, with_lines, place_of, table_name, IsFoundNode, HasDir, IsFoundChange, AreFoundChanges, most_nodes, most_bytes, IsOfBytes, AreOfBytes, IsNodeBounded, IsTreeShaped, change_of, changes_of, AreShaped, lines_in, standing_by, AreLines, link_bytes, is_over, ReadsAll, LinesCause, mapped_of, node_or_dir, CanMerge, exceed_limits, HasBadLine, IsLineCause, TableLink, IsTable, over, links_among, lacks_flags, read_body, BeginsWith, IsFirstBadLine, ReadsWhole, table_text_or_cause, AnswersText, room_behind, IsJoined, AnswersFound, HasTable, items_in, found_as, AnswersWalk, bytes_flags, lines_made, lines_merge, IsLinked, set_at, mapped_changes, found, body_read, lacks_none, bytes_linked}
+use Rattle.fx_base.proofs.Lists.{same_heads}
 use Rattle.fx_outside.specs.declared.kind.HostKind.TheVariants as kind
-use Rattle.fx_outside.specs.Path.{Parts, parts}
-use Rattle.fx_outside.specs.Listing.{Names}
-use Rattle.fx_outside.specs.Tree.{Tree, Entry, Lists, entry_at, is_folder_at, is_file_at, is_file_kind, bytes_at}
-use Rattle.std.specs.Global.{Global}
-use Rattle.std.specs.Prelude.{Vec}
-use Rattle.fx_base.proofs.Results.{some_of}
-use Rattle.fx_folder.specs.Loads.{loads, AnswersAs}
-use Rattle.fx_folder.specs.Reads.{path_below}
 use Rattle.fx_folder.proofs.Below.{folder_fit}
 use Rattle.fx_folder.proofs.Texts.{parts_table, fit_table}
-use Rattle.fx_outside.proofs.Sorted.{sorted_test, strictly_sorted}
-use Rattle.fx_store.specs.declared.node.Node.{Node}
-use Rattle.fx_store.specs.declared.node.Node.TheVariants.{File, Dir, Link}
-use Rattle.fx_store.specs.declared.changes.Change.{Change}
-use Rattle.fx_store.specs.Changes.{IsChanges, changed_paths, change_at}
-use Rattle.fx_store.specs.Names.{path_cmp, IsPath}
-use Rattle.fx_store.specs.Orders.{path_eq_same}
-use Rattle.fx_store.specs.Whole.{Store}
-use Rattle.fx_table.specs.declared.fault.FolderCause.{FolderCause}
-use Rattle.fx_table.specs.declared.fault.FolderCause.TheVariants.{BadName, Strange, TooLarge, BadTable}
-use Rattle.fx_table.specs.declared.fault.LoadFault.{LoadFault}
-use Rattle.fx_table.specs.declared.fault.LoadFault.TheVariants.{Refused, ReadFault, NoMemory}
-use Rattle.fx_folder.specs.declared.walking.Walked.{Walked}
-use Rattle.fx_folder.specs.Deep.{Held, all_below, walked, table_in, all_bytes, first_refused, refused_entry, node_of_kind, unlisted, most_in_table, unless_bad, lacking, lines_or_cause, table_file_lines, linked, with_table, unless_refused, loaded, as_nodes}
-use Rattle.fx_table.specs.Listed.{Mapped, listed, with_flag, with_flags, with_lines}
-use Rattle.fx_table.specs.Places.{place_of, table_name}
-use Rattle.fx_folder.specs.Grown.{IsFoundNode, HasDir, IsFoundChange, AreFoundChanges}
-use Rattle.fx_folder.specs.Limits.{most_nodes, most_bytes}
-use Rattle.fx_table.specs.Shaped.{IsOfBytes, AreOfBytes, IsNodeBounded, IsTreeShaped, change_of, changes_of, AreShaped}
-use Rattle.fx_table.specs.Lines.{lines_in, standing_by, AreLines, link_bytes, is_over, ReadsAll, LinesCause}
-use Rattle.fx_table.specs.Mapped.{mapped_of, node_or_dir}
-use Rattle.fx_table.specs.Merges.{CanMerge}
-use Rattle.fx_folder.specs.RefusalLaws.{exceed_limits, HasBadLine, IsLineCause}
-use Rattle.fx_table.specs.Table.{TableLink, IsTable, over, links_among, lacks_flags, read_body}
-use Rattle.fx_table.specs.TableLaws.{BeginsWith, IsFirstBadLine}
-use Rattle.fx_folder.specs.Tables.{ReadsWhole, table_text_or_cause, AnswersText, room_behind, IsJoined, AnswersFound, HasTable, items_in}
-use Rattle.fx_folder.specs.Walks.{found_as, AnswersWalk}
 use Rattle.fx_folder.proofs.Branches.{find_below}
-use Rattle.fx_table.proofs.Flagging.{bytes_flags, lines_made, lines_merge}
-use Rattle.fx_table.proofs.Linking.{IsLinked}
-use Rattle.fx_table.proofs.Making.{set_at}
-use Rattle.fx_table.proofs.Naming.{mapped_changes}
 use Rattle.fx_folder.proofs.Refusals.{same_first, fits_all}
-use Rattle.fx_table.proofs.Shapes.{found}
-use Rattle.fx_table.proofs.Versions.{body_read, lacks_none}
-use Rattle.fx_table.proofs.Reaching.{bytes_linked}
 use Rattle.fx_folder.proofs.TableRefusals.{lines_refused, same_many}
 
 -- ---- what was found has a shape
@@ -74,19 +24,11 @@ found_set (c ∷ cs) es all = λ i. first c all.0 i ∷ found_set cs es all.1 i
 -- what holds of each change holds where one is found
 each_at : (P : Parts → Option Node → Type 0) (cs : List Change) (q : Parts) (node : Node) → AllByRecursion (λ (c : Change). P c.path c.node) cs → cs ≡ changes_of (mapped_of cs) → found (mapped_of cs) q ≡ Some node → P q (Some node)
 each_at P [] q node all set is = cc
-each_at P (c ∷ cs) q node all set is = by (eq_by_cmp path_cmp q c.path) refl is (each_at P cs q node all.1 (ap rest set))
+each_at P (c ∷ cs) q node all set is = let tail : cs ≡ changes_of (mapped_of cs) = cc in by (eq_by_cmp path_cmp q c.path) refl is (each_at P cs q node all.1 tail)
   where
-    rest : List Change → List Change
-    rest [] = []
-    rest (d ∷ ds) = ds
-
-    head_or : List Change → Option Node
-    head_or [] = None
-    head_or (d ∷ ds) = d.node
-
     by : (b : Bool) → eq_by_cmp path_cmp q c.path ≡ b → cond b (Some (node_or_dir c.node)) (found (mapped_of cs) q) ≡ Some node → (found (mapped_of cs) q ≡ Some node → P q (Some node)) → P q (Some node)
     by true same is further =
-        let here : c.node ≡ Some node = ap head_or set ∙ is in
+        let here : c.node ≡ Some node = ap (λ (x : Change). x.node) (same_heads c (change_of (c.path, node_or_dir c.node)) cs (changes_of (mapped_of cs)) set) ∙ is in
         subst (λ p. P p (Some node)) (sym (path_eq_same q c.path same)) (subst (P c.path) here all.0)
     by false other is further = further is
 
@@ -199,17 +141,13 @@ passes true true false o x y e = cc
 passes true false c o x y e = cc
 passes false b c o x y e = cc
 
-neither : (a b : Option FolderCause) → option_or a b ≡ None → (a ≡ None) × (b ≡ None)
-neither None b e = (refl, e)
-neither (Some x) b e = cc
-
 below : (n : ℕ) → nat_lt n most_nodes ≡ true → n < most_nodes
 below n e = grind (arith, nat_tests)
 
 few_nodes : (nodes left : ℕ) (hs : List Held) → nodes ≤ most_nodes → first_refused nodes left hs ≡ None → nodes + length hs ≤ most_nodes
 few_nodes nodes left [] le none = omega (arith, le)
 few_nodes nodes left (h ∷ hs) le none =
-    let two = neither (refused_entry nodes left h) (first_refused (nodes + 1) (left - length h.1.bytes) hs) none in
+    let two = neither_some (refused_entry nodes left h) (first_refused (nodes + 1) (left - length h.1.bytes) hs) none in
     let lt = below nodes (passes _ _ (nat_lt nodes most_nodes) _ _ _ two.0) in
     omega (arith, few_nodes (nodes + 1) (left - length h.1.bytes) hs (omega (arith, lt)) two.1)
 
@@ -226,7 +164,7 @@ all_unflagged (h ∷ hs) = λ i. unflagged h.0 h.1.kind h.1.bytes i ∷ all_unfl
 no_lines : (hs : List Held) → with_lines (unlisted hs) [] ≡ unlisted hs
 no_lines hs = ap (λ l. ([], Dir []) ∷ l) (all_unflagged hs)
 
-module _ (t : Tree) (at : Parts) (w : Walked) (are : AreFoundChanges w.found.items) (walk : AnswersWalk t at (Ok w)) where
+module _ (t : Tree) (at : Parts) (w : Loader) (are : AreFoundChanges w.found.items) (walk : AnswersWalk t at (Ok w)) where
   abbrev hs : List Held
   hs = walked (all_below t at)
 
@@ -378,7 +316,7 @@ table_file (Some t) folder k here has is =
 text_here : (t : Tree) (folder : List ℕ) (k : HostKind) (e : HasEntry t folder k) (answer : Result (List ℕ) FolderCause) → table_text_or_cause k (bytes_at t (path_below folder table_name)) ≡ answer → table_text_or_cause e.entry.kind e.entry.bytes ≡ answer
 text_here t folder k e answer is = ap (λ x. table_text_or_cause x e.entry.bytes) e.kind ∙ (ap (table_text_or_cause k) (sym e.bytes) ∙ is)
 
-pub joined_told : (told : Option Tree) (folder : List ℕ) (k : HostKind) (w : Walked) (text : List ℕ) (r : Result (Vec Change Global) LoadFault) → AreFoundChanges w.found.items → IfSome told (λ t. is_folder_at t folder ≡ true) → IfSome told (λ t. HasTable t (parts folder) k) → IfSome told (λ t. AnswersWalk t (parts folder) (Ok w)) → IfSome told (λ t. AnswersText (table_text_or_cause k (bytes_at t (path_below folder table_name))) (Ok text))
+pub joined_told : (told : Option Tree) (folder : List ℕ) (k : HostKind) (w : Loader) (text : List ℕ) (r : Result (Vec Change Global) LoadFault) → AreFoundChanges w.found.items → IfSome told (λ t. is_folder_at t folder ≡ true) → IfSome told (λ t. HasTable t (parts folder) k) → IfSome told (λ t. AnswersWalk t (parts folder) (Ok w)) → IfSome told (λ t. AnswersText (table_text_or_cause k (bytes_at t (path_below folder table_name))) (Ok text))
     → IfOk r (λ all. IsJoined w.found.items w.left text all.items) → IfErr r (LinesCause (standing_by w.found.items) (room_behind w.found.items w.left) text) → IfSome told (λ t. AnswersFound t (parts folder) (items_in r))
 joined_told None folder k w text r are here has walk answer joined cause = tt
 joined_told (Some t) folder k w text (Ok all) are here has walk answer joined cause =
@@ -390,7 +328,7 @@ joined_told (Some t) folder k w text (Err (Refused why)) are here has walk answe
 joined_told (Some t) folder k w text (Err ReadFault) are here has walk answer joined cause = tt
 joined_told (Some t) folder k w text (Err NoMemory) are here has walk answer joined cause = tt
 
-pub unread_told : (told : Option Tree) (folder : List ℕ) (k : HostKind) (w : Walked) (fault : LoadFault) → AreFoundChanges w.found.items → IfSome told (λ t. is_folder_at t folder ≡ true) → IfSome told (λ t. HasTable t (parts folder) k) → IfSome told (λ t. AnswersWalk t (parts folder) (Ok w)) → IfSome told (λ t. AnswersText (table_text_or_cause k (bytes_at t (path_below folder table_name))) (Err fault))
+pub unread_told : (told : Option Tree) (folder : List ℕ) (k : HostKind) (w : Loader) (fault : LoadFault) → AreFoundChanges w.found.items → IfSome told (λ t. is_folder_at t folder ≡ true) → IfSome told (λ t. HasTable t (parts folder) k) → IfSome told (λ t. AnswersWalk t (parts folder) (Ok w)) → IfSome told (λ t. AnswersText (table_text_or_cause k (bytes_at t (path_below folder table_name))) (Err fault))
     → IfSome told (λ t. AnswersFound t (parts folder) (Err fault))
 unread_told None folder k w fault are here has walk answer = tt
 unread_told (Some t) folder k w (Refused cause) are here has walk answer =
@@ -399,7 +337,7 @@ unread_told (Some t) folder k w (Refused cause) are here has walk answer =
 unread_told (Some t) folder k w ReadFault are here has walk answer = tt
 unread_told (Some t) folder k w NoMemory are here has walk answer = tt
 
-pub bare_told : (told : Option Tree) (at : Parts) (w : Walked) (names : Names) (all : List Change) → AreFoundChanges w.found.items → IfSome told (λ t. Lists t at names) → IfSome told (λ t. AnswersWalk t at (Ok w)) → None ≡ get names table_name → all ≡ w.found.items → IfSome told (λ t. AnswersFound t at (Ok all))
+pub bare_told : (told : Option Tree) (at : Parts) (w : Loader) (names : Names) (all : List Change) → AreFoundChanges w.found.items → IfSome told (λ t. Lists t at names) → IfSome told (λ t. AnswersWalk t at (Ok w)) → None ≡ get names table_name → all ≡ w.found.items → IfSome told (λ t. AnswersFound t at (Ok all))
 bare_told None at w names all are lists walk none is = tt
 bare_told (Some t) at w names all are lists walk none is =
     answers_bare t at w are walk (by (get t (at ++ table_name ∷ [])) (sym (lists table_name) ∙ sym none)) ∙ ap (λ l. Ok (listed (mapped_of l))) (sym is)

@@ -1,35 +1,7 @@
 -- A walk grows a tree, entry by entry in the order of paths.
-use Rattle.std.proofs.Common.{◌≡◌, ◌⊎◌, inl, inr, ℕ, ◌-◌, Bool, true, false, cond, T, List, [], ◌∷◌, ◌++◌, length, take, Option, Some, None, Result, Ok, Err, IfOk, OnOk, refl, sym, ◌∙◌, ap, subst, arith, append_assoc, append-nil}
-use Rattle.std.specs.declared.cmp.Ordering.{Ordering}
-use Rattle.std.specs.declared.cmp.Ordering.TheVariants.{Less, Equal, Greater}
-use Rattle.std.specs.Ordering.{is_eq, is_lt, eq_by_cmp, ordering_then}
-use Rattle.std.specs.List.{AllByRecursion}
+use Rattle.fx_folder.proofs.Prelude.{◌≡◌, ◌⊎◌, inl, inr, ℕ, ◌-◌, Bool, true, false, cond, T, List, [], ◌∷◌, ◌++◌, length, take, Option, Some, None, Result, Ok, Err, IfOk, OnOk, refl, sym, ◌∙◌, ap, subst, arith, append_assoc, append-nil, Ordering, Less, Equal, Greater, is_eq, is_lt, eq_by_cmp, ordering_then, AllByRecursion, keys_of, empty, entries, entries_sorted, find, is_sorted, below_all, false≢true, All-nil, all_front, all_end, all_both, path_itself, not_before_itself, same_front, path_is, above_pushed, HostKind, Names, name_cmp, Parts, first, second, is_less, parts_total, in_folder_cmp, entries_none, Dir, Change, path_cmp, IsPath, IsName, rest_is, Item, rest_of, Mapped, mapped_of, node_or_dir, is_dir, LoadFault, item, item_path, items_of, in_table, root_found, AddsItems, Tree, IsFoundNode, HasDir, IsFoundChange, AreFoundChanges, paths_ahead, IsGrown, FindsItem, none_if_never}
 use Rattle.std.specs.List.Sorted.{IsStrictlySortedBy}
-use Rattle.std.specs.Map.{keys_of}
-use Rattle.std.specs.FinMap.{empty, entries, entries_sorted, find, is_sorted}
-use Rattle.std.specs.FinMap.Entries.{below_all}
-use Rattle.std.proofs.lemmas.Bool.{false≢true}
-use Rattle.std.proofs.lemmas.List.Elements.{All-nil}
-use Rattle.fx_base.proofs.Lists.{all_front, all_end, all_both}
-use Rattle.fx_base.proofs.Names.{path_itself, same_front, path_is, above_pushed}
-use Rattle.fx_outside.specs.declared.kind.HostKind.{HostKind}
-use Rattle.fx_outside.specs.Listing.{Names, name_cmp}
-use Rattle.fx_outside.specs.Path.{Parts}
-use Rattle.fx_outside.proofs.Sorted.{first, second, is_less}
-use Rattle.fx_outside.proofs.Trees.{parts_total, in_folder_cmp, entries_none}
-use Rattle.fx_store.specs.declared.node.Node.TheVariants.{Dir}
-use Rattle.fx_store.specs.declared.changes.Change.{Change}
-use Rattle.fx_store.specs.Names.{path_cmp, IsPath, IsName}
-use Rattle.fx_store.proofs.PathLists.{rest_is}
-use Rattle.fx_folder.specs.declared.walking.Item.{Item}
-use Rattle.fx_table.specs.Places.{rest_of}
-use Rattle.fx_table.specs.Listed.{Mapped}
-use Rattle.fx_table.specs.Mapped.{mapped_of, node_or_dir}
-use Rattle.fx_table.specs.Table.{is_dir}
-use Rattle.fx_table.specs.declared.fault.LoadFault.{LoadFault}
-use Rattle.fx_folder.specs.Walks.{item, item_path, items_of, in_table, root_found, AddsItems}
-use Rattle.fx_outside.specs.Tree.{Tree}
-use Rattle.fx_folder.specs.Grown.{IsFoundNode, HasDir, IsFoundChange, AreFoundChanges, paths_ahead, IsGrown, FindsItem}
+use Rattle.fx_folder.proofs.Ordered.{last_of}
 use Rattle.fx_folder.proofs.Ways.{root_pushed}
 
 abbrev AllAbove : Parts → List Parts → Type 0
@@ -139,29 +111,15 @@ not_before p s less = by s (sym (same_front p s []) ∙ (ap (path_cmp (p ++ s)) 
 
 -- a path in a directory that comes before another path is not below that
 rest_apart : (p q : Parts) (n : List ℕ) → path_cmp q p ≡ Less → path_cmp p (q ++ n ∷ []) ≡ Less → rest_of p (q ++ n ∷ []) ≡ None
-rest_apart p q n before behind = by (rest_of p (q ++ n ∷ [])) refl
+rest_apart p q n before behind = none_if_never _ λ s is. at s (rest_is p (q ++ n ∷ []) s is)
   where
-    by : (o : Option Parts) → rest_of p (q ++ n ∷ []) ≡ o → o ≡ None
-    by None is = refl
-    by (Some s) is = absurd (at s (rest_is p (q ++ n ∷ []) s is))
-      where
-        last : (s : Parts) → (s ≡ []) ⊎ ((t : Parts) × (m : List ℕ) × (s ≡ t ++ m ∷ []))
-        last [] = inl refl
-        last (a ∷ s) = elim (last s) [
-          | inl none ↦ inr ([], a, ap (λ l. a ∷ l) none)
-          | inr more ↦ inr (a ∷ more.0, more.1, ap (λ l. a ∷ l) more.2)
-        ]
-
-        at : (s : Parts) → q ++ n ∷ [] ≡ p ++ s → ⊥
-        at s same = elim (last s) [
-          | inl none ↦
-              let here : q ++ n ∷ [] ≡ p = same ∙ (ap (λ l. p ++ l) none ∙ append-nil p) in
-              not_before p [] (ap (λ l. path_cmp l p) (append-nil p) ∙ (ap (path_cmp p) (sym here) ∙ behind))
-          | inr more ↦
-              let whole : q ++ n ∷ [] ≡ (p ++ more.0) ++ more.1 ∷ [] = same ∙ (ap (λ l. p ++ l) more.2 ∙ sym (append_assoc p more.0 (more.1 ∷ []))) in
-              let around : q ≡ p ++ more.0 = sym (above_pushed q n) ∙ (ap (λ l. take (length l - 1) l) whole ∙ above_pushed (p ++ more.0) more.1) in
-              not_before p more.0 (ap (λ l. path_cmp l p) (sym around) ∙ before)
-        ]
+    at : (s : Parts) → q ++ n ∷ [] ≡ p ++ s → ⊥
+    at [] same = not_before_itself p (ap (path_cmp p) (sym (same ∙ append-nil p)) ∙ behind)
+    at (a ∷ s) same =
+        let l = last_of a s in
+        let whole : q ++ n ∷ [] ≡ (p ++ l.0) ++ l.1 ∷ [] = same ∙ (ap (λ x. p ++ x) l.2 ∙ sym (append_assoc p l.0 (l.1 ∷ []))) in
+        let around : q ≡ p ++ l.0 = sym (above_pushed q n) ∙ (ap (λ x. take (length x - 1) x) whole ∙ above_pushed (p ++ l.0) l.1) in
+        not_before p l.0 (ap (λ x. path_cmp x p) (sym around) ∙ before)
 
 -- ---- the children of a folder come between it and the next path
 
@@ -169,37 +127,33 @@ all_far : (p q : Parts) (ks : List Parts) → path_cmp p q ≡ Less → AllAbove
 all_far p q [] less all = tt
 all_far p q (k ∷ ks) less all = (parts_total.trans p q k less all.0, all_far p q ks less all.1)
 
-all_joined : (p : Parts) (ks ls : List Parts) → AllAbove p ks → AllAbove p ls → AllAbove p (ks ++ ls)
-all_joined p [] ls all more = more
-all_joined p (k ∷ ks) ls all more = (all.0, all_joined p ks ls all.1 more)
-
 between : (p : Parts) (ks rs : List Parts) → IsStrictlySortedBy path_cmp ks → AllByRecursion (λ k. AllAbove k rs) ks → IsStrictlySortedBy path_cmp rs → IsStrictlySortedBy path_cmp (ks ++ rs)
 unfolding IsStrictlySortedBy
 between p [] rs up before rest = rest
-between p (k ∷ ks) rs up before rest = (all_joined k ks rs up.0 before.0, between p ks rs up.1 before.1 rest)
+between p (k ∷ ks) rs up before rest = (all_both (λ q. path_cmp k q ≡ Less) ks rs up.0 before.0, between p ks rs up.1 before.1 rest)
 
 put_between : (bs : List Parts) (p : Parts) (ks rs : List Parts) → IsStrictlySortedBy path_cmp (bs ++ p ∷ rs) → AllAbove p ks → IsStrictlySortedBy path_cmp ks → AllByRecursion (λ k. AllAbove k rs) ks → IsStrictlySortedBy path_cmp (bs ++ p ∷ (ks ++ rs))
 unfolding IsStrictlySortedBy
-put_between [] p ks rs up above ascend before = (all_joined p ks rs above up.0, between p ks rs ascend before up.1)
+put_between [] p ks rs up above ascend before = (all_both (λ q. path_cmp p q ≡ Less) ks rs above up.0, between p ks rs ascend before up.1)
 put_between (a ∷ bs) p ks rs up above ascend before = (wider bs up.0, put_between bs p ks rs up.1 above ascend before)
   where
     wider : (cs : List Parts) → AllAbove a (cs ++ p ∷ rs) → AllAbove a (cs ++ p ∷ (ks ++ rs))
-    wider [] all = (all.0, all_joined a ks rs (all_far a p ks all.0 above) all.1)
+    wider [] all = (all.0, all_both (λ q. path_cmp a q ≡ Less) ks rs (all_far a p ks all.0 above) all.1)
     wider (b ∷ cs) all = (all.0, wider cs all.1)
 
 -- ---- a step
+
+before_last : (k p : Parts) (ks rs : List Parts) → AllAbove k (ks ++ p ∷ rs) → path_cmp k p ≡ Less
+before_last k p [] rs all = all.0
+before_last k p (l ∷ ks) rs all = before_last k p ks rs all.1
 
 less_than : (es : List Mapped) (q p : Parts) (rs : List Parts) → HasDir es q → IsStrictlySortedBy path_cmp (keys_of es ++ p ∷ rs) → path_cmp q p ≡ Less
 unfolding IsStrictlySortedBy
 less_than [] q p rs is up = absurd (false≢true is)
 less_than (e ∷ es) q p rs is up = by (eq_by_cmp path_cmp q e.0) refl (λ there. less_than es q p rs there up.1) is
   where
-    at_last : (k : Parts) (ks : List Parts) → AllAbove k (ks ++ p ∷ rs) → path_cmp k p ≡ Less
-    at_last k [] all = all.0
-    at_last k (l ∷ ks) all = at_last k ks all.1
-
     by : (b : Bool) → eq_by_cmp path_cmp q e.0 ≡ b → (HasDir es q → path_cmp q p ≡ Less) → is_dir (cond b (Some e.1) (find path_cmp q es)) ≡ true → path_cmp q p ≡ Less
-    by true same rest is = subst (λ l. path_cmp l p ≡ Less) (sym (path_is q e.0 same)) (at_last e.0 (keys_of es) up.0)
+    by true same rest is = subst (λ l. path_cmp l p ≡ Less) (sym (path_is q e.0 same)) (before_last e.0 p (keys_of es) rs up.0)
     by false apart rest is = rest is
 
 rest_sorted : (bs : List Parts) (p : Parts) (rs : List Parts) → IsStrictlySortedBy path_cmp (bs ++ p ∷ rs) → AllAbove p rs
@@ -212,7 +166,7 @@ children_before : (p : Parts) (n : List ℕ) (todo : List Item) → AllAbove p (
 children_before p n [] above before = tt
 children_before p n (x ∷ todo) above before =
     let here : path_cmp p (item_path x) ≡ Less = (all_end (λ q. path_cmp p q ≡ Less) (paths_ahead todo) (item_path x ∷ []) above).0 in
-    all_joined (p ++ n ∷ []) (paths_ahead todo) (item_path x ∷ [])
+    all_both (λ q. path_cmp (p ++ n ∷ []) q ≡ Less) (paths_ahead todo) (item_path x ∷ [])
     (children_before p n todo (all_front (λ q. path_cmp p q ≡ Less) (paths_ahead todo) (item_path x ∷ []) above) before.1)
     (before_apart p (n ∷ []) (item_path x) here (rest_apart p x.parent x.name before.0 here), tt)
 
@@ -244,17 +198,13 @@ stand_new fs p es (inr dir) = go es
         by true = tt
         by false = (dir, tt)
 
-before_last : (k p : Parts) (ks rs : List Parts) → AllAbove k (ks ++ p ∷ rs) → path_cmp k p ≡ Less
-before_last k p [] rs all = all.0
-before_last k p (l ∷ ks) rs all = before_last k p ks rs all.1
-
 dir_last : (es : List Mapped) (p : Parts) (rs : List Parts) → IsStrictlySortedBy path_cmp (keys_of es ++ p ∷ rs) → HasDir (es ++ (p, Dir []) ∷ []) p
 unfolding IsStrictlySortedBy
 dir_last [] p rs up = ap (λ b. is_dir (cond b (Some (Dir [])) None)) (path_itself p)
 dir_last (e ∷ es) p rs up = by (eq_by_cmp path_cmp p e.0) refl (dir_last es p rs up.1)
   where
     by : (b : Bool) → eq_by_cmp path_cmp p e.0 ≡ b → HasDir (es ++ (p, Dir []) ∷ []) p → is_dir (cond b (Some e.1) (find path_cmp p (es ++ (p, Dir []) ∷ []))) ≡ true
-    by true same rest = absurd (not_before p [] (ap (λ l. path_cmp l p) (append-nil p) ∙ (ap (λ l. path_cmp l p) (path_is p e.0 same) ∙ before_last e.0 p (keys_of es) rs up.0)))
+    by true same rest = absurd (not_before_itself p (ap (λ l. path_cmp l p) (path_is p e.0 same) ∙ before_last e.0 p (keys_of es) rs up.0))
     by false apart rest = rest
 
 module _ (found : List Change) (todo todo' : List Item) (x : Item) (c : Change) (was : IsGrown found (todo ++ x ∷ [])) (finds : FindsItem x todo todo' c) where
@@ -343,23 +293,17 @@ begin_grown names found start todo first p q ns f s b c d e g =
 pub grows_to : (found new : List Change) (todo todo' : List Item) (x : Item) (c : Change) → new ≡ found ++ c ∷ [] → IsGrown found (todo ++ x ∷ []) → FindsItem x todo todo' c → IsGrown new todo'
 grows_to found new todo todo' x c is was finds = subst (λ l. IsGrown l todo') (sym is) (grows found todo todo' x c was finds)
 
-pub finds_file : (x : Item) (todo todo' : List Item) (p : Parts) (c : Change) → IsPath p → p ≡ item_path x → todo' ≡ todo → (c.path ≡ p) × IsFoundNode c.node → FindsItem x todo todo' c
-finds_file x todo todo' p c path at same is = record {
+pub file_found : (x : Item) (todo : List Item) (p : Parts) (r : Result Change LoadFault) → IsPath p → p ≡ item_path x → IfOk r (λ c. (c.path ≡ p) × IsFoundNode c.node) → IfOk r (FindsItem x todo todo)
+file_found x todo p (Ok c) path at is = record {
   path = is.0 ∙ at;
   valid = subst IsPath (sym is.0) path;
   node = is.1;
   names = empty;
-  more = same ∙ (sym (append-nil todo) ∙ ap (λ l. todo ++ items_of c.path l) (sym entries_none));
+  more = sym (append-nil todo) ∙ ap (λ l. todo ++ items_of c.path l) (sym entries_none);
   inside = inl entries_none;
 }
-
-pub finds_folder : (x : Item) (todo todo' : List Item) (p : Parts) (c : Change) (names : Names) → IsPath p → p ≡ item_path x → c ≡ record { path = p; node = Some (Dir []) } → todo' ≡ todo ++ items_of p (entries names) → FindsItem x todo todo' c
-finds_folder x todo todo' p c names path at is same = subst (FindsItem x todo todo') (sym is) (record { path = at; valid = path; node = refl; names = names; more = same; inside = inr refl })
-
-pub file_found : (x : Item) (todo : List Item) (p : Parts) (r : Result Change LoadFault) → IsPath p → p ≡ item_path x → IfOk r (λ c. (c.path ≡ p) × IsFoundNode c.node) → IfOk r (FindsItem x todo todo)
-file_found x todo p (Ok c) path at is = finds_file x todo todo p c path at refl is
 file_found x todo p (Err fault) path at is = tt
 
 pub folder_found : (told : Option Tree) (text : List ℕ) (x : Item) (todo todo' : List Item) (p : Parts) (r : Result Change LoadFault) → IsPath p → p ≡ item_path x → IfOk r (λ c. c ≡ record { path = p; node = Some (Dir []) }) → OnOk r (AddsItems told text p todo todo') → IfOk r (FindsItem x todo todo')
-folder_found told text x todo todo' p (Ok c) path at is adds = finds_folder x todo todo' p c adds.0 path at is adds.1
+folder_found told text x todo todo' p (Ok c) path at is adds = subst (FindsItem x todo todo') (sym is) (record { path = at; valid = path; node = refl; names = adds.0; more = adds.1; inside = inr refl })
 folder_found told text x todo todo' p (Err fault) path at is adds = tt

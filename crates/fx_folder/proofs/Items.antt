@@ -1,18 +1,6 @@
 -- Items of a folder: which entry is its table, and where an item stands.
-use Rattle.std.proofs.Common.{◌≡◌, ℕ, zero, suc, ◌+◌, ◌<◌, ◌≤◌, Bool, true, false, cond, List, [], ◌∷◌, ◌++◌, length, drop, None, Some, refl, sym, ◌∙◌, ap, arith, append_assoc, append-nil}
-use Rattle.std.specs.Prelude.{bytes_eq}
-use Rattle.std.specs.List.{slice_get}
-use Rattle.std.proofs.lemmas.Bool.{false≢true}
-use Rattle.std.proofs.lemmas.Option.{same_Some}
-use Rattle.std.proofs.lemmas.List.Elements.{All-head}
-use Rattle.std.proofs.lemmas.Slice.Eq.{bytes_eq-Decides}
-use Rattle.fx_base.proofs.Lists.{none_past}
-use Rattle.fx_outside.specs.declared.kind.HostKind.{HostKind}
-use Rattle.fx_outside.specs.Path.{Parts}
-use Rattle.fx_store.specs.Names.{is_name, IsName, IsPath}
-use Rattle.fx_folder.specs.declared.walking.Item.{Item}
-use Rattle.fx_table.specs.Places.{table_name, place_of}
-use Rattle.fx_folder.specs.Walks.{in_table, item, items_of}
+use Rattle.fx_folder.proofs.Prelude.{◌≡◌, ℕ, zero, suc, ◌+◌, ◌<◌, ◌≤◌, Bool, true, false, cond, List, [], ◌∷◌, ◌++◌, length, drop, None, Some, refl, sym, ◌∙◌, ap, arith, append_assoc, append-nil, bytes_eq, slice_get, false≢true, same_Some, All-head, bytes_eq-Decides, none_past, HostKind, Parts, IsName, IsPath, Item, table_name, place_of, in_table, item, items_of}
+use Rattle.fx_store.specs.Names.{is_name}
 
 pub reserved : is_name table_name ≡ false
 unfolding is_name

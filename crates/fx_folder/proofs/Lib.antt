@@ -2,7 +2,6 @@ pub mod Below
 pub mod Branches
 pub mod Counted
 mod DeepExamples
-pub mod Faulted
 pub mod Filled
 pub mod FolderLoads
 pub mod Answering
@@ -13,7 +12,9 @@ pub mod Items
 pub mod Listings
 pub mod Loaded
 pub mod Marking
+pub mod Ordered
 pub mod Places
+mod Prelude
 pub mod Reading
 pub mod Refusals
 pub mod RoundTrip

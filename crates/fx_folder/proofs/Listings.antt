@@ -1,15 +1,6 @@
 -- What a folder's listing says of it.
-use Rattle.std.proofs.Common.{◌≡◌, inr, ℕ, true, false, cond, List, [], ◌∷◌, ◌++◌, length, Option, Some, None, option_map, IfSome, refl, sym, ◌∙◌, ap}
-use Rattle.std.specs.Option.{option_map_or}
-use Rattle.std.specs.Ordering.{is_eq}
-use Rattle.std.specs.Cmp.{tied_itself}
-use Rattle.std.specs.Cmp.Lexicographic.{nat_list_cmp_total}
-use Rattle.std.specs.FinMap.{get, len, entries, find, get-entries, get-empty, empty_of_len, len-entries}
-use Rattle.fx_outside.specs.declared.kind.HostKind.{HostKind}
-use Rattle.fx_outside.specs.Listing.{Names, name_cmp}
-use Rattle.fx_outside.specs.Path.{parts}
-use Rattle.fx_outside.specs.Tree.{Tree, Entry, Lists, entry_at, is_folder_at, is_folder_kind}
-use Rattle.fx_folder.specs.Folder.{IsReady, IsTaken}
+use Rattle.fx_folder.proofs.Prelude.{◌≡◌, inr, ℕ, true, cond, List, [], ◌∷◌, ◌++◌, length, Option, Some, None, option_map, IfSome, refl, sym, ◌∙◌, ap, is_eq, tied_itself, nat_list_cmp_total, get, len, entries, find, get-entries, get-empty, empty_of_len, len-entries, HostKind, Names, name_cmp, parts, Tree, Entry, Lists, entry_at, is_folder_at, IsReady, IsTaken}
+use Rattle.fx_folder.proofs.Filled.{stands}
 
 nothing_listed : (names : Names) → len names ≡ 0 → (q : List ℕ) → get names q ≡ None
 nothing_listed names e q = ap (λ m. get m q) (empty_of_len names e) ∙ get-empty name_cmp q
@@ -34,10 +25,6 @@ some_mapped (Some x) kind e = (x, refl)
 pub is_ready : (told : Option Tree) (path : List ℕ) (names : Names) → IfSome told (λ tree. is_folder_at tree path ≡ true) → IfSome told (λ tree. Lists tree (parts path) names) → len names ≡ 0 → IfSome told (λ tree. IsReady tree path true)
 is_ready None path names folder lists none = tt
 is_ready (Some tree) path names folder lists none = (folder, λ name. none_mapped _ (sym (nothing_listed names none name) ∙ lists name))
-
-stands : (o : Option Entry) → option_map_or (λ e. is_folder_kind e.kind) o false ≡ true → (e : Entry) × (o ≡ Some e)
-stands None h = cc
-stands (Some e) h = (e, refl)
 
 pub is_taken : (told : Option Tree) (path : List ℕ) (names : Names) → IfSome told (λ tree. is_folder_at tree path ≡ true) → IfSome told (λ tree. Lists tree (parts path) names) → (len names ≡ 0 → ⊥) → IfSome told (λ tree. IsTaken tree path)
 is_taken None path names folder lists some = tt

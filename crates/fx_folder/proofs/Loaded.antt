@@ -1,47 +1,12 @@
 -- What a folder is loaded as is a whole filestore.
-use Rattle.std.proofs.Common.{◌≡◌, inl, inr, ℕ, zero, suc, ◌+◌, ◌-◌, ◌<◌, ◌≤◌, ◌==◌, Bool, true, false, cond, not, ◌&&◌, T, List, [], ◌∷◌, ◌++◌, map, length, take, Option, Some, None, Result, Ok, Err, is_some, IsSome, IfSome, IsTrue, All, refl, sym, ◌∙◌, ap, subst, arith, append_assoc, length-take}
-use Rattle.std.specs.Prelude.{nat_lt, nat_le, bytes_eq}
-use Rattle.std.specs.Ordering.{is_lt, eq_by_cmp}
-use Rattle.std.specs.Option.{option_or, option_map, option_map_or}
+use Rattle.fx_folder.proofs.Prelude.{◌≡◌, inl, inr, ℕ, zero, suc, ◌+◌, ◌-◌, ◌<◌, ◌≤◌, Bool, true, false, cond, not, ◌&&◌, T, List, [], ◌∷◌, ◌++◌, map, length, take, Option, Some, None, Result, Ok, Err, is_some, IsSome, IfSome, IsTrue, All, refl, sym, ◌∙◌, ap, subst, arith, append_assoc, length-take, nat_lt, nat_le, bytes_eq, is_lt, eq_by_cmp, option_or, option_map, get, find, is_sorted, from_entries, get-from_entries, below_all, cases_Bool, false≢true, and_parts, or_parts, nat_tests, same_Some, All-nil, All-push, take-length, take-suc, neither_some, some_of, HostKind, parts_cmp, above, Tree, Entry, is_folder_kind, both, first, second, strictly_sorted, Node, File, Dir, Link, path_cmp, is_name, IsName, IsPath, path_total, path_eq_same, Store, Nodes, IsWhole-same, FolderCause, BadTable, most_nodes, most_in_file, most_bytes, Loads, IsRefused, table_name, TableLine, IsLine, IsTable, over, has_place, is_dir, setting_of, first_number, body_of, is_second, read_body, lines_before, links_among, Held, all_below, walked, table_in, last_name, refused_kind, refused_bytes, refused_entry, first_refused, node_of_kind, unlisted, unless_bad, are_too_many, lacking, lines_or_cause, table_file_lines, table_lines, linked, all_bytes, with_table, unless_refused, as_nodes, Mapped, with_lines, listed, LoadsAreWhole, IsOfBytes, AreOfBytes, texts_are_lines, over_all, found, listed_whole, find_listed, relisted, lines_made, IsLinked, chosen_some}
 use Rattle.std.specs.List.Sorted.{IsStrictlySortedBy}
-use Rattle.std.specs.FinMap.{get, find, is_sorted, from_entries, get-from_entries}
-use Rattle.std.specs.FinMap.Entries.{below_all}
-use Rattle.std.proofs.lemmas.Bool.{cases_Bool, false≢true, and_parts, or_parts}
-use Rattle.std.proofs.lemmas.Bool.Decides.{nat_tests}
-use Rattle.std.proofs.lemmas.Option.{same_Some}
-use Rattle.std.proofs.lemmas.List.Elements.{All-nil, All-push}
-use Rattle.std.proofs.Math.Seq.{take-length, take-suc}
-use Rattle.fx_base.proofs.Results.{neither_some, some_of}
-use Rattle.fx_base.proofs.Names.{above_pushed}
-use Rattle.fx_outside.specs.declared.kind.HostKind.{HostKind}
 use Rattle.fx_outside.specs.declared.kind.HostKind.TheVariants as kind
-use Rattle.fx_outside.specs.Path.{parts_cmp, above}
 use Rattle.fx_outside.specs.Tree as host
-use Rattle.fx_outside.specs.Tree.{Tree, Entry, has_folder, is_folder_kind}
-use Rattle.fx_outside.proofs.Sorted.{both, first, second, strictly_sorted}
-use Rattle.fx_store.specs.declared.node.Node.{Node}
-use Rattle.fx_store.specs.declared.node.Node.TheVariants.{File, Dir, Link}
-use Rattle.fx_store.specs.Names.{path_cmp, is_name, IsName, IsPath}
-use Rattle.fx_store.specs.Orders.{path_total, path_eq_same}
-use Rattle.fx_store.specs.Whole.{Store, Nodes}
-use Rattle.fx_store.proofs.Stores.{IsWhole-same}
-use Rattle.fx_table.specs.declared.fault.FolderCause.{FolderCause}
-use Rattle.fx_table.specs.declared.fault.FolderCause.TheVariants.{BadTable}
-use Rattle.fx_folder.specs.Loads.{most_nodes, most_in_file, most_bytes, Loads, IsRefused}
-use Rattle.fx_table.specs.Places.{table_name}
-use Rattle.fx_table.specs.declared.line.TableLine.{TableLine}
-use Rattle.fx_table.specs.Table.{IsLine, IsTable, over, has_place, is_dir, setting_of, first_number, body_of, is_second, read_body, lines_before, links_among}
-use Rattle.fx_folder.specs.Deep.{Held, all_below, walked, table_in, last_name, refused_kind, refused_bytes, refused_entry, first_refused, node_of_kind, unlisted, unless_bad, are_too_many, lacking, lines_or_cause, table_file_lines, table_lines, linked, all_bytes, with_table, unless_refused, as_nodes}
-use Rattle.fx_table.specs.Listed.{Mapped, with_lines, listed}
-use Rattle.fx_folder.specs.LoadLaws.{LoadsAreWhole}
-use Rattle.fx_table.specs.Shaped.{IsOfBytes, AreOfBytes}
-use Rattle.fx_table.proofs.TableLines.{texts_are_lines}
-use Rattle.fx_table.proofs.Versions.{over_all}
-use Rattle.fx_table.proofs.Shapes.{found, IsNodeBounded, listed_whole, find_listed, relisted}
-use Rattle.fx_table.proofs.Flagging.{lines_made}
-use Rattle.fx_table.proofs.Linking.{IsLinked}
+use Rattle.fx_table.proofs.Shapes.{IsNodeBounded}
 use Rattle.fx_folder.proofs.Walked.{below_sorted, below_root, find_walked_below}
-use Rattle.fx_folder.proofs.Filled.{stands}
+pub use Rattle.fx_folder.proofs.Filled.{folder_entry_is}
+use Rattle.fx_folder.proofs.Filled.{stands, stands_in}
 
 abbrev Paths : Type 0
 Paths = List (List ℕ)
@@ -123,32 +88,14 @@ find_unlisted hs n r = find_nodes hs (n ∷ r)
 
 -- ---- a folder stands above each entry
 
-not_hidden : (b : Bool) (o : Option Entry) (e : Entry) → cond b o None ≡ Some e → (b ≡ true) × (o ≡ Some e)
-not_hidden true o e is = (refl, is)
-not_hidden false o e is = cc
-
 some_mapped : {A B : Type 0} (f : A → B) (o : Option A) → is_some (option_map f o) ≡ true → is_some o ≡ true
 some_mapped f None e = e
 some_mapped f (Some x) e = refl
-
-pub folder_entry_is : (tree : Tree) (P : Paths) (n : List ℕ) (r : Paths) → has_folder tree (P ++ n ∷ r) ≡ option_map_or (λ x. is_folder_kind x.kind) (get tree (P ++ n ∷ r)) false
-folder_entry_is tree [] n r = refl
-folder_entry_is tree (p ∷ P) n r = refl
 
 dir_of_folder : (k : HostKind) (bytes : List ℕ) → is_folder_kind k ≡ true → is_dir (Some (node_of_kind k bytes)) ≡ true
 dir_of_folder kind.File bytes e = absurd (false≢true e)
 dir_of_folder kind.Folder bytes e = refl
 dir_of_folder kind.Other bytes e = absurd (false≢true e)
-
-stands_in : (tree : Tree) → host.IsWhole tree → (q : Paths) (n : List ℕ) (e : Entry) → get tree (q ++ n ∷ []) ≡ Some e → has_folder tree q ≡ true
-stands_in tree whole q n e is =
-    let p = q ++ n ∷ [] in
-    let placed = whole.placed p e is in
-    let one = and_parts (not (length p == 0)) _ placed in
-    let two = and_parts _ _ one.1 in
-    let three = and_parts _ _ two.1 in
-    let four = and_parts (has_folder tree (above p)) _ three.1 in
-    sym (ap (has_folder tree) (above_pushed q n)) ∙ four.0
 
 module _ (tree : Tree) (whole : host.IsWhole tree) (P : Paths) where
   abbrev hs : List Held
@@ -158,7 +105,7 @@ module _ (tree : Tree) (whole : host.IsWhole tree) (P : Paths) where
   above_walked [] name some = refl
   above_walked (a ∷ p) name some =
       let there = some_of (find parts_cmp (a ∷ (p ++ name ∷ [])) hs) (some_mapped node_of _ (sym (ap is_some (find_unlisted hs a (p ++ name ∷ []))) ∙ some)) in
-      let at = not_hidden (not (bytes_eq a table_name)) (get tree (P ++ a ∷ (p ++ name ∷ []))) there.0 (sym (find_walked_below tree P a (p ++ name ∷ [])) ∙ there.1) in
+      let at = chosen_some (not (bytes_eq a table_name)) (get tree (P ++ a ∷ (p ++ name ∷ []))) there.0 (sym (find_walked_below tree P a (p ++ name ∷ [])) ∙ there.1) in
       let parted : get tree ((P ++ a ∷ p) ++ name ∷ []) ≡ Some there.0 = ap (get tree) (append_assoc P (a ∷ p) (name ∷ [])) ∙ at.1 in
       let around = stands (get tree (P ++ a ∷ p)) (sym (folder_entry_is tree P a p) ∙ stands_in tree whole (P ++ a ∷ p) name there.0 parted) in
       ap is_dir (

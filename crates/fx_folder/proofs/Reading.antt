@@ -1,17 +1,5 @@
 -- Reading a file piece by piece.
-use Rattle.std.proofs.Common.{◌≡◌, ℕ, zero, suc, ◌+◌, ◌≤◌, min, nat_lt, Bool, true, false, cond, List, [], ◌∷◌, ◌++◌, length, take, drop, Option, None, Some, IfSome, IsSomeAnd, sym, ◌∙◌, ap, subst, arith, length-append, length-take, length-drop}
-use Rattle.std.proofs.lemmas.Bool.Decides.{nat_tests}
-use Rattle.std.proofs.lemmas.List.{take_all}
-use Rattle.fx_outside.specs.Tree.{Tree, bytes_at}
-use Rattle.fx_outside.specs.Host.{ReadsAt}
-use Rattle.fx_folder.specs.Limits.{most_in_file}
-use Rattle.fx_folder.specs.Reads.{refused_size, place_below}
-use Rattle.fx_table.specs.declared.fault.FolderCause.TheVariants.{TooLarge}
-
--- a call that suits the told tree does not fail for the tree's sake
-pub suited : (told : Option Tree) (suits : Tree → Bool) → IfSome told (λ t. suits t ≡ true) → IsSomeAnd told (λ t. suits t ≡ false) → ⊥
-suited None suits holds fails = fails
-suited (Some t) suits holds fails = cc
+use Rattle.fx_folder.proofs.Prelude.{◌≡◌, ℕ, zero, suc, ◌+◌, List, [], ◌∷◌, ◌++◌, length, take, drop, Option, None, Some, IfSome, sym, ◌∙◌, ap, subst, arith, length-append, length-take, length-drop, take_all, Tree, bytes_at, ReadsAt}
 
 take_more : (m n : ℕ) (xs : List ℕ) → take m xs ++ take n (drop m xs) ≡ take (m + n) xs
 take_more zero n xs = ap (λ k. take k xs) (omega arith)
@@ -38,13 +26,3 @@ front_told told told' path path' old buffer new from n same there start front re
     (subst (λ p. IfSome told (λ t. ReadsAt (bytes_at t p) from n buffer)) there
     (subst (λ o. IfSome o (λ t. ReadsAt (bytes_at t path') from n buffer)) same reads)))
     is
-
-not_larger : (left : ℕ) (name contents : List ℕ) → length contents ≤ min left most_in_file → refused_size left name contents ≡ None
-not_larger left name contents le = let small : nat_lt (min left most_in_file) (length contents) ≡ false = grind (arith, nat_tests) in ap (λ b. cond b (Some (TooLarge (place_below name))) None) small
-
--- at the end all is read
-pub read_end : (contents old buffer : List ℕ) (left n limit : ℕ) (name : List ℕ) → limit ≡ min left most_in_file → length old ≤ limit → old ≡ take (length old) contents → ReadsAt contents (length old) n buffer → n ≡ 0 → record { fits : refused_size left name contents ≡ None; all : old ≡ contents }
-read_end contents old buffer left n limit name is within front reads none =
-    let ends = reads.ends none in
-    let whole : old ≡ contents = front ∙ take_all (length old) contents ends in
-    record { fits = not_larger left name contents (omega (arith, ap length whole)); all = whole }

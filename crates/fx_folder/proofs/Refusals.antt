@@ -1,36 +1,7 @@
 -- A folder is refused for the first cause of its entries.
-use Rattle.std.proofs.Common.{◌≡◌, ◌⊎◌, inl, inr, ℕ, ◌+◌, ◌-◌, ◌≤◌, Bool, true, false, cond, not, ◌&&◌, ◌||◌, T, List, [], ◌∷◌, ◌++◌, length, filter, Option, Some, None, Result, Ok, Err, refl, sym, ◌∙◌, ap, subst, arith, append_assoc, append-nil, length-append}
-use Rattle.std.specs.Prelude.{nat_lt, nat_le, bytes_eq}
-use Rattle.std.specs.declared.cmp.Ordering.{Ordering}
-use Rattle.std.specs.declared.cmp.Ordering.TheVariants.{Less, Equal, Greater}
-use Rattle.std.specs.Ordering.{is_lt, is_eq, eq_by_cmp, ordering_reverse}
-use Rattle.std.specs.Cmp.{tied_itself}
-use Rattle.std.specs.Option.{option_or}
-use Rattle.std.specs.FinMap.{get, find, is_sorted}
-use Rattle.std.specs.FinMap.Entries.{below_all}
-use Rattle.std.proofs.lemmas.Bool.{cases_Bool}
-use Rattle.std.proofs.lemmas.Bool.Decides.{nat_tests}
-use Rattle.std.proofs.lemmas.Option.{same_Some}
-use Rattle.std.proofs.lemmas.List.Sums.{sum_by_push}
-use Rattle.fx_base.proofs.Results.{neither_some}
-use Rattle.fx_outside.specs.declared.kind.HostKind.{HostKind}
+use Rattle.fx_folder.proofs.Prelude.{◌≡◌, ◌⊎◌, inl, inr, ℕ, ◌+◌, ◌-◌, ◌≤◌, Bool, true, false, cond, not, ◌&&◌, ◌||◌, T, List, [], ◌∷◌, ◌++◌, length, filter, Option, Some, None, Result, Ok, Err, refl, sym, ◌∙◌, ap, subst, arith, append_assoc, append-nil, length-append, nat_lt, nat_le, bytes_eq, Ordering, Less, Equal, Greater, is_lt, is_eq, eq_by_cmp, ordering_reverse, tied_itself, option_or, get, find, is_sorted, below_all, cases_Bool, nat_tests, same_Some, sum_by_push, neither_some, HostKind, Parts, parts_cmp, Tree, Entry, strictly_sorted, first, second, is_less, parts_total, parts_same, is_name, path_eq_same, Store, FolderCause, BadName, Strange, TooLarge, most_nodes, most_in_file, most_bytes, table_name, place_of, TableLine, minus, Held, all_below, table_in, last_name, all_bytes, refused_kind, refused_bytes, refused_entry, first_refused, unlisted, table_lines, linked, unless_refused, as_nodes, deep_loads, StandsBelow, all_standing, is_one_too_many, is_too_much, is_strange, where_so, cause_of, IsFirstCause, HasNoCause, IsTableCause, EntriesAreListed, FirstCausesAreTold, not_before_itself}
 use Rattle.fx_outside.specs.declared.kind.HostKind.TheVariants as kind
-use Rattle.fx_outside.specs.Path.{Parts, parts_cmp}
-use Rattle.fx_outside.specs.Tree.{Tree, Entry}
-use Rattle.fx_outside.proofs.Sorted.{strictly_sorted, first, second, is_less}
-use Rattle.fx_outside.proofs.Trees.{parts_total, parts_same}
-use Rattle.fx_store.specs.Names.{is_name}
-use Rattle.fx_store.specs.Orders.{path_eq_same}
-use Rattle.fx_store.specs.Whole.{Store}
-use Rattle.fx_table.specs.declared.fault.FolderCause.{FolderCause}
-use Rattle.fx_table.specs.declared.fault.FolderCause.TheVariants.{BadName, Strange, TooLarge}
-use Rattle.fx_folder.specs.Loads.{most_nodes, most_in_file, most_bytes}
-use Rattle.fx_table.specs.Places.{table_name, place_of}
-use Rattle.fx_table.specs.declared.line.TableLine.{TableLine}
-use Rattle.fx_table.proofs.Lining.{minus}
-use Rattle.fx_folder.specs.Deep.{Held, all_below, table_in, last_name, all_bytes, refused_kind, refused_bytes, refused_entry, first_refused, unlisted, table_lines, linked, unless_refused, as_nodes, deep_loads}
-use Rattle.fx_folder.specs.RefusalLaws.{StandsBelow, all_standing, is_one_too_many, is_too_much, is_strange, where_so, cause_of, IsFirstCause, HasNoCause, IsTableCause, EntriesAreListed, FirstCausesAreTold}
-use Rattle.fx_folder.proofs.Counted.{none_behind}
+use Rattle.fx_folder.proofs.Ordered.{none_behind, sorted_end}
 use Rattle.fx_folder.proofs.TableRefusals.{IsCauseOf, table_is, table_refused, over}
 use Rattle.fx_folder.proofs.Walked.{below_sorted, below_root, find_walked_below}
 use Rattle.fx_folder.proofs.Branches.{find_below}
@@ -148,10 +119,6 @@ those_before (x ∷ before) h hs up =
     ap (λ o. cond (is_lt o) (x ∷ filter (is_before h.0) (before ++ h ∷ hs)) (filter (is_before h.0) (before ++ h ∷ hs))) (below_middle x.0 before h hs (first (below_all parts_cmp x.0 (before ++ h ∷ hs)) _ up))
     ∙ ap (λ l. x ∷ l) (those_before before h hs (second (below_all parts_cmp x.0 (before ++ h ∷ hs)) _ up))
 
-sorted_end : (before hs : List Held) → T (is_sorted parts_cmp (before ++ hs)) → T (is_sorted parts_cmp hs)
-sorted_end [] hs up = up
-sorted_end (x ∷ before) hs up = sorted_end before hs (second (below_all parts_cmp x.0 (before ++ hs)) _ up)
-
 -- ---- the first cause is told by paths
 
 module _ (all : List Held) (up : T (is_sorted parts_cmp all)) where
@@ -193,17 +160,14 @@ module _ (all : List Held) (up : T (is_sorted parts_cmp all)) where
     | inr later ↦ comes_after p q e hs (second (is_lt (parts_cmp p h.0)) _ below) later
   ]
 
-  less_itself : (p : Parts) → parts_cmp p p ≡ Less → ⊥
-  less_itself p less = let tied : parts_cmp p p ≡ Equal = tied_itself parts_total p in cc
-
   never_less : (p q : Parts) → parts_cmp p q ≡ Less → parts_cmp q p ≡ Less → ⊥
-  never_less p q less back = less_itself p (parts_total.trans p q p less back)
+  never_less p q less back = not_before_itself p (parts_total.trans p q p less back)
 
   found_later : (h : Held) (hs : List Held) (q : Parts) (e : Entry) → T (is_sorted parts_cmp (h ∷ hs)) → find parts_cmp q hs ≡ Some e → find parts_cmp q (h ∷ hs) ≡ Some e
   found_later h hs q e sorted is = elim (cases_Bool (eq_by_cmp parts_cmp q h.0)) [
     | inl same ↦
         let less = comes_after h.0 q e hs (first (below_all parts_cmp h.0 hs) _ sorted) is in
-        absurd (less_itself h.0 (subst (λ k. parts_cmp h.0 k ≡ Less) (path_eq_same q h.0 same) less))
+        absurd (not_before_itself h.0 (subst (λ k. parts_cmp h.0 k ≡ Less) (path_eq_same q h.0 same) less))
     | inr other ↦ ap (λ b. cond b (Some h.1) (find parts_cmp q hs)) other ∙ is
   ]
 
@@ -224,7 +188,7 @@ module _ (all : List Held) (up : T (is_sorted parts_cmp all)) where
         stands = found_head h hs;
         has = here (Some c) same ∙ e;
         earliest = λ q x found less. elim (found_at h hs q x found) [
-          | inl it ↦ absurd (less_itself h.0 (subst (λ k. parts_cmp k h.0 ≡ Less) it.0 less))
+          | inl it ↦ absurd (not_before_itself h.0 (subst (λ k. parts_cmp k h.0 ≡ Less) it.0 less))
           | inr after ↦ absurd (never_less h.0 q (comes_after h.0 q x hs (first (below_all parts_cmp h.0 hs) _ sorted) after) less)
         ];
       }

@@ -1,52 +1,14 @@
 -- The folder of a whole filestore is loaded as this filestore.
-use Rattle.std.proofs.Common.{◌≡◌, inl, inr, ℕ, ◌+◌, ◌-◌, ◌<◌, ◌≤◌, Bool, true, false, cond, not, ◌&&◌, ◌||◌, T, List, [], ◌∷◌, ◌++◌, map, length, Option, Some, None, Ok, Err, is_some, is_none, IfSome, refl, sym, ◌∙◌, ap, subst, arith}
-use Rattle.std.specs.Prelude.{nat_lt, nat_le, bytes_eq}
-use Rattle.std.specs.Ordering.{eq_by_cmp}
-use Rattle.std.specs.Option.{option_or, option_map}
-use Rattle.std.specs.List.{AllByRecursion, slice_index_or}
-use Rattle.std.specs.List.Sorted.{IsStrictlySortedBy}
-use Rattle.std.specs.Map.{keys_of}
-use Rattle.std.specs.FinMap.{get, entries, find, put, is_sorted, from_entries, get-from_entries, get-entries, entries_sorted, len-entries, same_map}
-use Rattle.std.specs.FinMap.Entries.{same_entries, is_sorted-put}
-use Rattle.std.proofs.lemmas.Bool.{cases_Bool, false≢true}
-use Rattle.std.proofs.lemmas.Bool.Decides.{nat_tests}
-use Rattle.std.proofs.lemmas.Slice.Eq.{bytes_eq-Decides}
-use Rattle.std.proofs.lemmas.List.Elements.{All-head}
-use Rattle.fx_outside.specs.declared.kind.HostKind.{HostKind}
+use Rattle.fx_folder.proofs.Prelude.{◌≡◌, inl, inr, ℕ, ◌+◌, ◌-◌, ◌<◌, ◌≤◌, Bool, true, false, cond, not, ◌&&◌, ◌||◌, T, List, [], ◌∷◌, ◌++◌, map, length, Option, Some, None, Ok, Err, is_some, is_none, IfSome, refl, sym, ◌∙◌, ap, subst, arith, nat_lt, nat_le, bytes_eq, eq_by_cmp, option_or, option_map, AllByRecursion, slice_index_or, IsStrictlySortedBy, keys_of, get, entries, find, put, is_sorted, from_entries, get-from_entries, get-entries, entries_sorted, len-entries, same_map, same_entries, is_sorted-put, cases_Bool, false≢true, nat_tests, bytes_eq-Decides, All-head, HostKind, parts_cmp, Tree, Entry, file, folder, parts_total, parts_same, strictly_sorted, sorted_test, Node, File, Dir, Link, path_cmp, has, is_name, IsName, path_total, path_same, parent, Store, Nodes, IsNode, lists, FolderCause, TooLarge, BadTable, host_entry, most_nodes, most_in_file, most_bytes, table_name, place_of, with_exec, TableLine, Mark, Target, Executable, TableLink, IsTable, over, can_mark, lines_of, links_among, flag_at, is_dir, is_file, table_text, read_body, but_no_link, unlinked, Held, all_below, walked, table_in, last_name, refused_kind, refused_entry, first_refused, unlisted, unless_bad, lacking, lines_or_cause, most_in_table, table_lines, linked, all_bytes, with_table, unless_refused, as_nodes, deep_loads, table_entry, is_table_place, HasFolderOf, Mapped, with_links, with_flags, with_lines, names_below, listed, IsWithinLimits, FoldersAreLoaded, find_flags, sorted_flags, body_read, lacks_none, AreFound, all_found, lines_are_tables, found, relisted, find_listed, has_below, names_ascend, find_linked, none_if_never}
 use Rattle.fx_outside.specs.declared.kind.HostKind.TheVariants as kind
-use Rattle.fx_outside.specs.Path.{parts_cmp}
-use Rattle.fx_outside.specs.Tree.{Tree, Entry, file, folder}
-use Rattle.fx_outside.proofs.Trees.{parts_total, parts_same}
-use Rattle.fx_outside.proofs.Sorted.{strictly_sorted, sorted_test}
-use Rattle.fx_store.specs.declared.node.Node.{Node}
-use Rattle.fx_store.specs.declared.node.Node.TheVariants.{File, Dir, Link}
-use Rattle.fx_store.specs.Names.{name_cmp, path_cmp, has, is_name, IsName}
-use Rattle.fx_store.specs.Orders.{name_total, name_same, path_total, path_same}
-use Rattle.fx_store.specs.Resolve.{parent}
-use Rattle.fx_store.specs.Whole.{Store, Nodes, IsWhole, IsNode, lists}
-use Rattle.fx_table.specs.declared.fault.FolderCause.{FolderCause}
-use Rattle.fx_table.specs.declared.fault.FolderCause.TheVariants.{TooLarge, BadTable}
-use Rattle.fx_folder.specs.Places.{host_entry}
-use Rattle.fx_folder.specs.Loads.{most_nodes, most_in_file, most_bytes}
-use Rattle.fx_table.specs.Places.{table_name, place_of}
-use Rattle.fx_table.specs.Flags.{with_exec}
-use Rattle.fx_table.specs.declared.line.TableLine.{TableLine}
-use Rattle.fx_table.specs.declared.line.Mark.{Mark}
-use Rattle.fx_table.specs.declared.line.Mark.TheVariants.{Target, Executable}
-use Rattle.fx_table.specs.Table.{TableLink, IsTable, over, can_mark, lines_of, links_among, flag_at, is_dir, is_file, table_text, read_body}
-use Rattle.fx_table.specs.TableLaws.{but_no_link, unlinked}
-use Rattle.fx_folder.specs.Deep.{Held, all_below, walked, table_in, last_name, refused_kind, refused_entry, first_refused, unlisted, unless_bad, lacking, lines_or_cause, most_in_table, table_lines, linked, all_bytes, with_table, unless_refused, as_nodes, deep_loads, table_entry, is_table_place, HasFolderOf}
-use Rattle.fx_table.specs.Listed.{Mapped, with_links, with_flags, with_lines, names_below, listed}
-use Rattle.fx_folder.specs.LoadLaws.{IsWithinLimits, FoldersAreLoaded}
-use Rattle.fx_table.proofs.Flagging.{find_flags, sorted_flags}
-use Rattle.fx_table.proofs.Versions.{body_read, lacks_none}
-use Rattle.fx_table.proofs.TableLinks.{AreFound, all_found, lines_are_tables}
-use Rattle.fx_table.proofs.Shapes.{found, relisted, find_listed, has_below, names_ascend}
-use Rattle.fx_table.proofs.Linking.{find_linked}
+use Rattle.fx_store.specs.Names.{name_cmp}
+use Rattle.fx_store.specs.Orders.{name_total, name_same}
+use Rattle.fx_store.specs.Whole.{IsWhole}
 use Rattle.fx_folder.proofs.Walked.{below_sorted, below_root, find_walked_below}
 use Rattle.fx_folder.proofs.Loaded.{IsAccepted, node_of, find_unlisted, unlisted_sorted}
-use Rattle.fx_folder.proofs.Counted.{none_behind, none_again, rest_sorted, has_root, held_of, find_held, no_root_held, held_sorted, lines_in, links_in, texts_of, more_bytes, counted, sum_held}
+use Rattle.fx_folder.proofs.Counted.{none_again, rest_sorted, has_root, held_of, find_held, no_root_held, held_sorted, lines_in, links_in, texts_of, more_bytes, counted, sum_held}
 use Rattle.fx_folder.proofs.Items.{reserved}
+use Rattle.fx_folder.proofs.Ordered.{none_behind}
 use Rattle.fx_folder.proofs.Branches.{find_below}
 
 abbrev Paths : Type 0
@@ -165,50 +127,25 @@ with_sorted (link ∷ links) ms up = with_sorted links (put path_cmp link.path (
 
 -- ---- each file has its flag
 
-no_flag : (es : List Mapped) (q : Paths) → found es q ≡ None → flag_at (lines_in es) q ≡ false
-no_flag [] q none = refl
-no_flag ((p, File bytes true) ∷ es) q none = by (eq_by_cmp path_cmp q p) none (no_flag es q)
-  where
-    by : (b : Bool) → cond b (Some (File bytes true)) (found es q) ≡ None → (found es q ≡ None → flag_at (lines_in es) q ≡ false) → cond b true (flag_at (lines_in es) q) ≡ false
-    by true none rest = cc
-    by false none rest = rest none
-no_flag ((p, Link text) ∷ es) q none = by (eq_by_cmp path_cmp q p) none (no_flag es q)
-  where
-    by : (b : Bool) → cond b (Some (Link text)) (found es q) ≡ None → (found es q ≡ None → flag_at (lines_in es) q ≡ false) → cond b false (flag_at (lines_in es) q) ≡ false
-    by true none rest = refl
-    by false none rest = rest none
-no_flag ((p, File bytes false) ∷ es) q none = no_flag es q (behind (eq_by_cmp path_cmp q p) (File bytes false) (found es q) none)
-  where
-    behind : (b : Bool) (node : Node) (o : Option Node) → cond b (Some node) o ≡ None → o ≡ None
-    behind true node o e = cc
-    behind false node o e = e
-no_flag ((p, Dir names) ∷ es) q none = no_flag es q (behind (eq_by_cmp path_cmp q p) (Dir names) (found es q) none)
-  where
-    behind : (b : Bool) (node : Node) (o : Option Node) → cond b (Some node) o ≡ None → o ≡ None
-    behind true node o e = cc
-    behind false node o e = e
+node_flag : Option Node → Bool
+node_flag None = false
+node_flag (Some (File bytes exec)) = exec
+node_flag (Some (Dir names)) = false
+node_flag (Some (Link text)) = false
 
 -- where an entry without a line comes first, the flag is that of the others
-skipped : (node : Node) (exec : Bool) (bytes : List ℕ) (es : List Mapped) (q : Paths) (b : Bool) → (Some node ≡ Some (File bytes exec) → exec ≡ false) → cond b (Some node) (found es q) ≡ Some (File bytes exec) → (b ≡ true → found es q ≡ None) → (found es q ≡ Some (File bytes exec) → flag_at (lines_in es) q ≡ exec) → flag_at (lines_in es) q ≡ exec
-skipped node exec bytes es q true plain is none rest = no_flag es q (none refl) ∙ sym (plain is)
-skipped node exec bytes es q false plain is none rest = rest is
+skipped : (node : Node) (flag b : Bool) (o : Option Node) → node_flag (Some node) ≡ false → (b ≡ true → o ≡ None) → flag ≡ node_flag o → flag ≡ node_flag (cond b (Some node) o)
+unfolding node_flag
+skipped node flag true o plain none rest = rest ∙ ap node_flag (none refl) ∙ sym plain
+skipped node flag false o plain none rest = rest
 
-flag_is : (es : List Mapped) → T (is_sorted path_cmp es) → (q : Paths) (bytes : List ℕ) (exec : Bool) → found es q ≡ Some (File bytes exec) → flag_at (lines_in es) q ≡ exec
-flag_is [] up q bytes exec is = cc
-flag_is ((p, File old true) ∷ es) up q bytes exec is = by (eq_by_cmp path_cmp q p) is (flag_is es (rest_sorted p (File old true) es up) q bytes exec)
-  where
-    by : (b : Bool) → cond b (Some (File old true)) (found es q) ≡ Some (File bytes exec) → (found es q ≡ Some (File bytes exec) → flag_at (lines_in es) q ≡ exec) → cond b true (flag_at (lines_in es) q) ≡ exec
-    by true is rest = cc
-    by false is rest = rest is
-flag_is ((p, Link text) ∷ es) up q bytes exec is = by (eq_by_cmp path_cmp q p) is (flag_is es (rest_sorted p (Link text) es up) q bytes exec)
-  where
-    by : (b : Bool) → cond b (Some (Link text)) (found es q) ≡ Some (File bytes exec) → (found es q ≡ Some (File bytes exec) → flag_at (lines_in es) q ≡ exec) → cond b false (flag_at (lines_in es) q) ≡ exec
-    by true is rest = cc
-    by false is rest = rest is
-flag_is ((p, File old false) ∷ es) up q bytes exec is =
-    skipped (File old false) exec bytes es q (eq_by_cmp path_cmp q p) (λ e. cc) is (none_again p (File old false) es up q) (flag_is es (rest_sorted p (File old false) es up) q bytes exec)
-flag_is ((p, Dir names) ∷ es) up q bytes exec is =
-    skipped (Dir names) exec bytes es q (eq_by_cmp path_cmp q p) (λ e. cc) is (none_again p (Dir names) es up q) (flag_is es (rest_sorted p (Dir names) es up) q bytes exec)
+flag_is : (es : List Mapped) → T (is_sorted path_cmp es) → (q : Paths) → flag_at (lines_in es) q ≡ node_flag (found es q)
+unfolding node_flag
+flag_is [] up q = refl
+flag_is ((p, File bytes true) ∷ es) up q = elim (eq_by_cmp path_cmp q p) as (λ b. cond b true (flag_at (lines_in es) q) ≡ node_flag (cond b (Some (File bytes true)) (found es q))) [ true ↦ refl | false ↦ flag_is es (rest_sorted p (File bytes true) es up) q ]
+flag_is ((p, Link text) ∷ es) up q = elim (eq_by_cmp path_cmp q p) as (λ b. cond b false (flag_at (lines_in es) q) ≡ node_flag (cond b (Some (Link text)) (found es q))) [ true ↦ refl | false ↦ flag_is es (rest_sorted p (Link text) es up) q ]
+flag_is ((p, File bytes false) ∷ es) up q = skipped (File bytes false) _ (eq_by_cmp path_cmp q p) (found es q) refl (none_again p (File bytes false) es up q) (flag_is es (rest_sorted p (File bytes false) es up) q)
+flag_is ((p, Dir names) ∷ es) up q = skipped (Dir names) _ (eq_by_cmp path_cmp q p) (found es q) refl (none_again p (Dir names) es up q) (flag_is es (rest_sorted p (Dir names) es up) q)
 
 -- ---- nodes whose names are not listed yet
 
@@ -246,12 +183,12 @@ erased_file (Some (File bytes exec)) = refl
 erased_file (Some (Dir names)) = refl
 erased_file (Some (Link text)) = refl
 
-with_erased : (flag : Bool) (o : Option Node) → ((bytes : List ℕ) (exec : Bool) → o ≡ Some (File bytes exec) → flag ≡ exec) → link_or o (with_exec flag (option_map erased (but_no_link o))) ≡ option_map erased o
-unfolding erased link_or
-with_erased flag None is = refl
-with_erased flag (Some (File bytes exec)) is = ap (λ f. Some (File bytes f)) (is bytes exec refl)
-with_erased flag (Some (Dir names)) is = refl
-with_erased flag (Some (Link text)) is = refl
+with_erased : (o : Option Node) → link_or o (with_exec (node_flag o) (option_map erased (but_no_link o))) ≡ option_map erased o
+unfolding erased link_or node_flag
+with_erased None = refl
+with_erased (Some (File bytes exec)) = refl
+with_erased (Some (Dir names)) = refl
+with_erased (Some (Link text)) = refl
 
 pub no_place : (n : List ℕ) (r : Paths) → bytes_eq n table_name ≡ false → is_table_place (n ∷ r) ≡ false
 no_place n [] e = e
@@ -267,16 +204,15 @@ module _ (tree : Tree) (P : Paths) (nodes : Nodes) (whole : IsWhole (get nodes))
   abbrev links : List TableLink
   links = links_among lines
 
-  nothing_there : (n : List ℕ) (r : Paths) (o : Option Node) → get nodes (n ∷ r) ≡ o → bytes_eq n table_name ≡ true → o ≡ None
-  nothing_there n r None e same = refl
-  nothing_there n r (Some node) e same =
+  nothing_there : (n : List ℕ) (r : Paths) → bytes_eq n table_name ≡ true → get nodes (n ∷ r) ≡ None
+  nothing_there n r same = none_if_never _ λ node e.
       let path = whole.paths (n ∷ r) (ap is_some e) in
       let valid : is_name n ≡ true = All-head IsName n r path.names in
-      absurd (false≢true (sym reserved ∙ (ap is_name (sym ((bytes_eq-Decides n table_name).0 same)) ∙ valid)))
+      false≢true (sym reserved ∙ (ap is_name (sym ((bytes_eq-Decides n table_name).0 same)) ∙ valid))
 
   below_is : (n : List ℕ) (r : Paths) → find parts_cmp (n ∷ r) hs ≡ host_entry (get nodes (n ∷ r))
   below_is n r = find_walked_below tree P n r ∙ elim (cases_Bool (bytes_eq n table_name)) [
-    | inl same ↦ ap (λ b. cond (not b) (get tree (P ++ n ∷ r)) None) same ∙ sym (ap host_entry (nothing_there n r (get nodes (n ∷ r)) refl same))
+    | inl same ↦ ap (λ b. cond (not b) (get tree (P ++ n ∷ r)) None) same ∙ sym (ap host_entry (nothing_there n r same))
     | inr other ↦ ap (λ b. cond (not b) (get tree (P ++ n ∷ r)) None) other ∙ (stands (n ∷ r) ∙ ap (λ b. cond b (table_entry lines) (host_entry (get nodes (n ∷ r)))) (no_place n r other))
   ]
 
@@ -317,7 +253,8 @@ module _ (tree : Tree) (P : Paths) (nodes : Nodes) (whole : IsWhole (get nodes))
       find_with (entries nodes) (entries_sorted nodes) (with_flags (unlisted hs) lines) q
       ∙ ap (λ o. link_or o (found (with_flags (unlisted hs) lines) q)) (sym (get-entries nodes q))
       ∙ ap (link_or (get nodes q)) (find_flags (unlisted hs) lines q ∙ ap (with_exec (flag_at lines q)) (unlisted_is q))
-      ∙ with_erased (flag_at lines q) (get nodes q) (λ bytes exec is. flag_is (entries nodes) (entries_sorted nodes) q bytes exec (sym (get-entries nodes q) ∙ is))
+      ∙ ap (λ b. link_or (get nodes q) (with_exec b (option_map erased (unlinked (get nodes) q)))) (flag_is (entries nodes) (entries_sorted nodes) q ∙ ap node_flag (sym (get-entries nodes q)))
+      ∙ with_erased (get nodes q)
 
   relist : (q : Paths) (o : Option Node) → get nodes q ≡ o → option_map (relisted ws q) (option_map erased o) ≡ o
   unfolding erased

@@ -1,27 +1,7 @@
 -- The table is refused for the first cause of its lines.
-use Rattle.std.proofs.Common.{◌≡◌, inl, inr, ℕ, ◌+◌, ◌-◌, ◌<◌, ◌≤◌, Bool, true, false, cond, ◌||◌, List, [], ◌∷◌, ◌++◌, length, sum_by, Option, Some, None, Result, Ok, Err, refl, sym, ◌∙◌, ap, arith, append-nil, length-append}
-use Rattle.std.specs.Prelude.{nat_lt}
-use Rattle.std.proofs.lemmas.Bool.Decides.{nat_tests}
-use Rattle.std.proofs.lemmas.List.Elements.{filter_map-append}
-use Rattle.std.proofs.lemmas.List.Sums.{sum_by-append}
-use Rattle.fx_outside.specs.declared.kind.HostKind.{HostKind}
+use Rattle.fx_folder.proofs.Prelude.{◌≡◌, inl, inr, ℕ, ◌+◌, ◌-◌, ◌<◌, ◌≤◌, Bool, true, false, cond, ◌||◌, List, [], ◌∷◌, ◌++◌, length, sum_by, Option, Some, None, Result, Ok, Err, refl, sym, ◌∙◌, ap, arith, append-nil, length-append, nat_lt, nat_tests, filter_map-append, sum_by-append, HostKind, Entry, Store, FolderCause, TooLarge, BadTable, most_nodes, most_bytes, table_name, place_of, TableLine, TableLink, Setting, setting_of, first_number, body_of, lines_text, read_body, lacks_flags, lines_before, links_among, link_in_line, IsFirstBadOf, Held, all_bytes, most_in_table, unless_bad, limited, lacking, lines_or_cause, table_file_lines, table_lines, exceed_limits, HasTooManyLinks, HasBadLine, IsLineCause, IsFileCause, body_said, SpellsLines, texts_are_lines, bad_line_is_first, before_end, lines_before_are, before_bad, stops_read, stops_in, lacks_in}
 use Rattle.fx_outside.specs.declared.kind.HostKind.TheVariants as kind
-use Rattle.fx_outside.specs.Tree.{Entry}
-use Rattle.fx_store.specs.Whole.{Store}
-use Rattle.fx_table.specs.declared.fault.FolderCause.{FolderCause}
-use Rattle.fx_table.specs.declared.fault.FolderCause.TheVariants.{TooLarge, BadTable}
-use Rattle.fx_folder.specs.Loads.{most_nodes, most_bytes}
-use Rattle.fx_table.specs.Places.{table_name, place_of}
-use Rattle.fx_table.specs.declared.line.TableLine.{TableLine}
-use Rattle.fx_table.specs.Table.{TableLink, Setting, setting_of, first_number, body_of, lines_text, read_body, lacks_flags, lines_before, links_among, link_in_line}
-use Rattle.fx_table.specs.TableLaws.{IsFirstBadOf}
 use Rattle.fx_folder.specs.Deep as deep
-use Rattle.fx_folder.specs.Deep.{Held, all_bytes, most_in_table, unless_bad, limited, lacking, lines_or_cause, table_file_lines, table_lines}
-use Rattle.fx_folder.specs.RefusalLaws.{exceed_limits, HasTooManyLinks, HasBadLine, IsLineCause, IsFileCause}
-use Rattle.fx_table.proofs.Bodies.{body_said}
-use Rattle.fx_table.proofs.TableLines.{SpellsLines, texts_are_lines, bad_line_is_first}
-use Rattle.fx_table.proofs.TableFronts.{before_end, lines_before_are, before_bad, stops_read}
-use Rattle.fx_table.proofs.Versions.{stops_in, lacks_in}
 
 abbrev too_large : FolderCause
 too_large = TooLarge (place_of (table_name ∷ []))

@@ -1,20 +1,6 @@
 -- Paths of entries of a folder, as texts.
-use Rattle.std.proofs.Common.{◌≡◌, inl, inr, ℕ, ◌==◌, ◌<◌, Bool, true, false, not, cond, ◌&&◌, ◌||◌, List, [], ◌∷◌, ◌++◌, length, All, append_assoc, append-nil, refl, sym, ◌∙◌, ap, arith}
-use Rattle.std.specs.Prelude.{nat_lt, nat_le, bytes_eq, codes}
-use Rattle.std.specs.List.{list_all, list_any, slice_split, onto_first}
-use Rattle.std.specs.Str.{is_utf8, IsUtf8}
-use Rattle.std.proofs.lemmas.Bool.{cases_Bool, and_from}
-use Rattle.std.proofs.lemmas.Bool.Decides.{nat_tests}
-use Rattle.std.proofs.lemmas.List.Folds.{list_all-append}
-use Rattle.std.proofs.lemmas.List.Splits.{length-slice_split}
-use Rattle.std.proofs.lemmas.Str.{IsUtf8-append, IsUtf8-from_is_utf8}
-use Rattle.fx_store.specs.Names.{IsName, is_name, is_slash, is_nul, is_reserved}
-use Rattle.fx_outside.specs.Host.{LetsIn}
-use Rattle.fx_outside.specs.Path.{Parts, parts, is_fit, is_fit_part}
-use Rattle.std.proofs.lemmas.List.Elements.{All-head, All-tail}
-use Rattle.fx_base.proofs.Booleans.{second_true, first_true}
-use Rattle.fx_folder.specs.Reads.{path_below}
-use Rattle.fx_table.specs.Places.{table_name, place_of}
+use Rattle.fx_folder.proofs.Prelude.{◌≡◌, inl, inr, ℕ, ◌==◌, ◌<◌, Bool, true, false, not, cond, ◌&&◌, ◌||◌, List, [], ◌∷◌, ◌++◌, length, All, append_assoc, append-nil, refl, sym, ◌∙◌, ap, arith, nat_lt, nat_le, bytes_eq, codes, list_all, list_any, slice_split, onto_first, is_utf8, IsUtf8, cases_Bool, and_from, nat_tests, list_all-append, length-slice_split, IsUtf8-append, IsUtf8-from_is_utf8, IsName, is_slash, is_nul, is_reserved, LetsIn, Parts, parts, is_fit, is_fit_part, All-head, All-tail, second_true, first_true, path_below, table_name, place_of}
+use Rattle.fx_store.specs.Names.{is_name}
 
 -- what a name is, one fact after another
 pub record NameParts (name : List ℕ) : Type 0 where

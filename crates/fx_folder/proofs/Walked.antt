@@ -1,20 +1,6 @@
 -- What is walked of a folder: what stands below it in the host's tree, but for the table.
-use Rattle.std.proofs.Common.{◌≡◌, ℕ, Bool, true, false, cond, not, T, List, [], ◌∷◌, ◌++◌, None, refl, sym, ◌∙◌, ap, subst}
-use Rattle.std.specs.Prelude.{bytes_eq}
-use Rattle.std.specs.Ordering.{is_lt}
-use Rattle.std.specs.FinMap.{get, entries, find, is_sorted}
-use Rattle.std.specs.FinMap.Entries.{below_all, where_key, is_sorted-where_key, find-where_key}
-use Rattle.fx_outside.specs.Path.{Parts, parts_cmp}
-use Rattle.fx_outside.specs.Tree.{Tree}
-use Rattle.fx_outside.proofs.Sorted.{both, first, second}
-use Rattle.fx_outside.proofs.Trees.{parts_same}
-use Rattle.fx_table.specs.Places.{table_name}
-use Rattle.fx_folder.specs.Deep.{Held, all_below, walked}
+use Rattle.fx_folder.proofs.Prelude.{◌≡◌, ℕ, Bool, true, cond, not, T, List, [], ◌∷◌, ◌++◌, None, refl, sym, ◌∙◌, ap, subst, bytes_eq, get, entries, find, is_sorted, below_all, where_key, is_sorted-where_key, find-where_key, Parts, parts_cmp, Tree, folder, both, first, parts_same, table_name, Held, all_below, walked}
 use Rattle.fx_folder.proofs.Branches.{all_sorted, root_below, find_below}
-
--- ---- names behind those of a folder
-
--- ---- what stands below a folder
 
 -- ---- the table is left out
 
@@ -34,21 +20,12 @@ find_walked hs q = ap (find parts_cmp q) (walked_is hs) ∙ find-where_key parts
 pub walked_sorted : (hs : List Held) → T (is_sorted parts_cmp hs) → T (is_sorted parts_cmp (walked hs))
 walked_sorted hs up = subst (λ l. T (is_sorted parts_cmp l)) (sym (walked_is hs)) (is_sorted-where_key parts_cmp is_walked hs up)
 
-below_kept : (k : Parts) (x : Held) (hs : List Held) (b : Bool) → T (is_lt (parts_cmp k x.0)) → T (below_all parts_cmp k hs) → T (below_all parts_cmp k (cond (not b) (x ∷ hs) hs))
-below_kept k x hs true less rest = rest
-below_kept k x hs false less rest = both (is_lt (parts_cmp k x.0)) _ less rest
-
-below_walked : (k : Parts) (hs : List Held) → T (below_all parts_cmp k hs) → T (below_all parts_cmp k (walked hs))
-below_walked k [] h = tt
-below_walked k (([], e) ∷ hs) h = both (is_lt (parts_cmp k [])) _ (first (is_lt (parts_cmp k [])) _ h) (below_walked k hs (second (is_lt (parts_cmp k [])) _ h))
-below_walked k ((n ∷ ns, e) ∷ hs) h = below_kept k (n ∷ ns, e) (walked hs) (bytes_eq n table_name) (first (is_lt (parts_cmp k (n ∷ ns))) _ h) (below_walked k hs (second (is_lt (parts_cmp k (n ∷ ns))) _ h))
-
 -- the entries that are walked, in order and behind the root
 pub below_sorted : (tree : Tree) (P : Parts) → T (is_sorted parts_cmp (walked (all_below tree P)))
 below_sorted tree P = walked_sorted (all_below tree P) (all_sorted tree P)
 
 pub below_root : (tree : Tree) (P : Parts) → T (below_all parts_cmp [] (walked (all_below tree P)))
-below_root tree P = below_walked [] (all_below tree P) (root_below P (entries tree))
+below_root tree P = first (below_all parts_cmp [] (walked (all_below tree P))) _ (walked_sorted (([], folder) ∷ all_below tree P) (both (below_all parts_cmp [] (all_below tree P)) _ (root_below P (entries tree)) (all_sorted tree P)))
 
 -- what is found among them
 pub find_walked_below : (tree : Tree) (P : Parts) (n : List ℕ) (r : Parts) → find parts_cmp (n ∷ r) (walked (all_below tree P)) ≡ cond (not (bytes_eq n table_name)) (get tree (P ++ n ∷ r)) None

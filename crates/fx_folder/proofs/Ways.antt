@@ -1,20 +1,5 @@
 -- One entry after another of a folder is walked.
-use Rattle.std.proofs.Common.{◌≡◌, ℕ, ◌+◌, ◌-◌, true, false, not, cond, List, [], ◌∷◌, ◌++◌, map, length, Option, Some, None, IfSome, Ok, Err, refl, sym, ◌∙◌, ap, subst, append_assoc, append-nil, arith, length-append}
-use Rattle.std.specs.Option.{option_or}
-use Rattle.std.specs.FinMap.{entries}
-use Rattle.std.proofs.lemmas.List.Sums.{sum_by-cons}
-use Rattle.fx_outside.specs.Listing.{Names}
-use Rattle.fx_outside.specs.Path.{Parts, parts}
-use Rattle.fx_outside.specs.Tree.{Tree, IsWhole, Lists, is_folder_at}
-use Rattle.fx_store.specs.declared.node.Node.TheVariants.{Dir}
-use Rattle.fx_store.specs.declared.changes.Change.{Change}
-use Rattle.fx_folder.specs.declared.walking.Item.{Item}
-use Rattle.fx_table.specs.declared.fault.FolderCause.{FolderCause}
-use Rattle.fx_table.specs.declared.fault.LoadFault.{LoadFault}
-use Rattle.fx_table.specs.declared.fault.LoadFault.TheVariants.{Refused, ReadFault, NoMemory}
-use Rattle.fx_folder.specs.Limits.{most_bytes}
-use Rattle.fx_folder.specs.Deep.{Held, all_below, walked, all_bytes, first_refused, refused_entry}
-use Rattle.fx_folder.specs.Walks.{item_path, items_of, in_table, held_of, below_names, ahead, IsThere, found_as, root_found, IsOnWay, IsEntered, AnswersEntry, WalkCause, size_of}
+use Rattle.fx_folder.proofs.Prelude.{◌≡◌, ℕ, ◌+◌, ◌-◌, true, false, not, cond, List, [], ◌∷◌, ◌++◌, map, length, Option, Some, None, IfSome, Ok, Err, refl, sym, ◌∙◌, ap, subst, append_assoc, append-nil, arith, length-append, option_or, entries, sum_by-cons, Names, Parts, parts, Tree, IsWhole, Lists, is_folder_at, Dir, Change, Item, FolderCause, LoadFault, Refused, ReadFault, NoMemory, most_bytes, Held, all_below, walked, all_bytes, first_refused, refused_entry, item_path, items_of, in_table, held_of, below_names, ahead, IsThere, found_as, root_found, IsOnWay, IsEntered, AnswersEntry, WalkCause, size_of}
 use Rattle.fx_folder.proofs.Branches.{ahead_push, items_ahead, items_there, there_front, there_last, table_is}
 
 behind_none : (xs : List Held) → map (below_names []) xs ≡ xs

@@ -1,27 +1,8 @@
 -- The steps of writing a folder: what each leaves, and that the next may be made.
-use Rattle.std.proofs.Common.{◌≡◌, inl, inr, ℕ, ◌<◌, ◌≤◌, Bool, true, false, cond, List, [], ◌∷◌, ◌++◌, length, Option, Some, None, IfSome, IsSome, OnOk, OnErr, Result, Ok, Err, refl, sym, ◌∙◌, ap, subst, arith, append_assoc}
-use Rattle.std.specs.Option.{option_or}
-use Rattle.std.specs.FinMap.{entries, get, find}
-use Rattle.fx_store.specs.declared.node.Node.{Node}
-use Rattle.fx_store.specs.declared.node.Node.TheVariants.{Dir}
-use Rattle.fx_store.specs.Names.{path_cmp}
-use Rattle.fx_store.specs.Whole.{Nodes, IsWhole}
-use Rattle.fx_outside.specs.Path.{Parts, parts}
-use Rattle.fx_outside.specs.Host.{HostView, WritesIn}
-use Rattle.fx_outside.proofs.Views.{writes_then}
+use Rattle.fx_folder.proofs.Prelude.{◌≡◌, inl, inr, ℕ, ◌<◌, ◌≤◌, Bool, true, false, cond, List, [], ◌∷◌, ◌++◌, length, Option, Some, None, IfSome, IsSome, OnOk, OnErr, Result, refl, sym, ◌∙◌, ap, subst, arith, append_assoc, append-nil, option_or, entries, get, find, Node, Dir, path_cmp, Nodes, Parts, parts, HostView, WritesIn, LetsIn, IsIn, HostFault, writes_then, fault_in, Tree, Entry, file, is_free_at, host_entry, table_name, place_of, path_below, TableLine, line_of, lines_of, lines_text, has_flags, version_line, table_text, table_entry, IfTold, IsSaved, IsPartlySaved, IsReady, TakesPath, IsLeftBelow, with_folder, MadePart, IsOpen, with_entry, WrotePart, HasEntries, WroteFront, file_unless_empty, PutsAt, PutsIn, find_append}
+use Rattle.fx_store.specs.Whole.{IsWhole}
 use Rattle.fx_outside.specs.Tree as tree
-use Rattle.fx_outside.specs.Tree.{Tree, Entry, file, is_free_at}
-use Rattle.fx_folder.specs.Places.{host_entry}
-use Rattle.fx_table.specs.Places.{table_name, place_of}
-use Rattle.fx_folder.specs.Reads.{path_below}
-use Rattle.fx_table.specs.declared.line.TableLine.{TableLine}
-use Rattle.fx_table.specs.Table.{line_of, lines_of, lines_text, has_flags, version_line, table_text}
-use Rattle.fx_folder.specs.Deep.{table_entry}
-use Rattle.fx_folder.specs.Folder.{IfTold, IsSaved, IsPartlySaved, IsReady}
-use Rattle.fx_table.specs.Remaining.{TakesPath, IsLeftBelow}
-use Rattle.fx_folder.specs.Written.{with_folder, MadePart, IsOpen, with_entry, WrotePart, HasEntries, WroteFront, file_unless_empty}
 use Rattle.fx_folder.proofs.Filled.{opens}
-use Rattle.fx_table.proofs.Descents.{find_append}
 use Rattle.fx_folder.proofs.Fronts.{begins, adds, fresh, from_old, next_free, table_free, all_saved, refused_front, refused_table, refused_folder}
 use Rattle.fx_folder.proofs.Texts.{parts_place, fit_place, parts_table, fit_table}
 
@@ -53,6 +34,21 @@ told_next (Some t) None P Q R p q h = tt
 told_next (Some t) (Some u) P Q R p q h = h t u p q
 
 -- one entry
+
+-- what is put at a path below a folder is put in the folder
+pub put_in : (folder place path : List ℕ) (p : Parts) (o o' : Option Entry) (a b : HostView) (r : Result (Unit {0}) HostFault) → path ≡ place → parts place ≡ parts folder ++ p → IsIn folder place → (LetsIn a.guard.may_write folder → a.guard.may_write place ≡ true) → o ≡ o' → PutsAt path o a b r → PutsIn folder p o' a b r
+put_in folder place path p o o' a b r is at inside lets same put =
+    let here : PutsAt place o' a b r = subst (λ x. PutsAt place x a b r) same (subst (λ q. PutsAt q o a b r) is put) in record {
+      written = subst (λ q. OnOk r (IfTold a.told b.told (λ t t'. t' ≡ with_entry t q o'))) at here.written;
+      partly = subst (λ q. OnErr r (IfTold a.told b.told (λ t t'. WrotePart t t' q o'))) at here.partly;
+      fault = λ failed. fault_in folder place a b inside (here.fault failed);
+      later = here.later;
+      fit = λ all. here.fit (lets all);
+    }
+
+pub in_place : (folder : List ℕ) (names : Parts) → IsIn folder (folder ++ place_of names)
+in_place folder [] = inl (append-nil folder)
+in_place folder (name ∷ names) = inr (name ++ place_of names, refl)
 
 -- the same place and entry, as the steps above name them
 
@@ -186,15 +182,13 @@ table_file (line ∷ lines) text is = ap file_unless_empty is ∙ some (has_flag
     some true = refl
     some false = long (line_of line) (lines_text lines)
 
-pub saved_all : {E : Type 0} (r : Result (Unit {0}) E) (told told1 told2 told3 : Option Tree) (path : List ℕ) (there : Bool) (nodes : Nodes) (text : List ℕ) → IsWhole (get nodes) → text ≡ table_text (lines_of nodes) → IfTold told told1 (λ t u. u ≡ with_folder t (parts path) there) → IfTold told1 told2 (λ t t'. HasEntries t t' (parts path) (entries nodes)) → OnOk r (IfTold told2 told3 (λ t t'. t' ≡ with_entry t (parts path ++ table_name ∷ []) (file_unless_empty text))) → OnOk r (IfTold told told3 (λ t t'. IsSaved t t' (parts path) nodes))
-saved_all (Err e) told told1 told2 told3 path there nodes text stored is made wrote added = tt
-saved_all (Ok done) told told1 told2 told3 path there nodes text stored is made wrote added =
+pub saved_all : (told told1 told2 told3 : Option Tree) (path : List ℕ) (there : Bool) (nodes : Nodes) (text : List ℕ) → IsWhole (get nodes) → text ≡ table_text (lines_of nodes) → IfTold told told1 (λ t u. u ≡ with_folder t (parts path) there) → IfTold told1 told2 (λ t t'. HasEntries t t' (parts path) (entries nodes)) → IfTold told2 told3 (λ t t'. t' ≡ with_entry t (parts path ++ table_name ∷ []) (file_unless_empty text)) → IfTold told told3 (λ t t'. IsSaved t t' (parts path) nodes)
+saved_all told told1 told2 told3 path there nodes text stored is made wrote added =
     told_then told told2 told3 (λ t t'. HasEntries t t' (parts path) (entries nodes)) (λ t t'. t' ≡ with_entry t (parts path ++ table_name ∷ []) (file_unless_empty text)) (λ t t'. IsSaved t t' (parts path) nodes) (filled told told1 told2 path there nodes made wrote) added
     (λ t u v at has new. all_saved nodes stored t u (parts path) has v (new ∙ ap (with_entry u (parts path ++ table_name ∷ [])) (table_file (lines_of nodes) text is)))
 
-pub stopped_in_table : {E : Type 0} (r : Result (Unit {0}) E) (told told1 told2 told3 : Option Tree) (path : List ℕ) (there : Bool) (nodes : Nodes) (text : List ℕ) → IsWhole (get nodes) → text ≡ table_text (lines_of nodes) → IfTold told told1 (λ t u. u ≡ with_folder t (parts path) there) → IfTold told1 told2 (λ t t'. HasEntries t t' (parts path) (entries nodes)) → OnErr r (IfTold told2 told3 (λ t t'. WrotePart t t' (parts path ++ table_name ∷ []) (file_unless_empty text))) → OnErr r (IfTold told told3 (λ t t'. IsPartlySaved t t' (parts path) nodes))
-stopped_in_table (Ok done) told told1 told2 told3 path there nodes text stored is made wrote part = tt
-stopped_in_table (Err e) told told1 told2 told3 path there nodes text stored is made wrote part =
+pub stopped_in_table : (told told1 told2 told3 : Option Tree) (path : List ℕ) (there : Bool) (nodes : Nodes) (text : List ℕ) → IsWhole (get nodes) → text ≡ table_text (lines_of nodes) → IfTold told told1 (λ t u. u ≡ with_folder t (parts path) there) → IfTold told1 told2 (λ t t'. HasEntries t t' (parts path) (entries nodes)) → IfTold told2 told3 (λ t t'. WrotePart t t' (parts path ++ table_name ∷ []) (file_unless_empty text)) → IfTold told told3 (λ t t'. IsPartlySaved t t' (parts path) nodes)
+stopped_in_table told told1 told2 told3 path there nodes text stored is made wrote part =
     told_then told told2 told3 (λ t t'. HasEntries t t' (parts path) (entries nodes)) (λ t t'. WrotePart t t' (parts path ++ table_name ∷ []) (file_unless_empty text)) (λ t t'. IsPartlySaved t t' (parts path) nodes) (filled told told1 told2 path there nodes made wrote) part
     (λ t u v at has some. refused_table nodes stored t u v (parts path) has (subst (WrotePart u v (parts path ++ table_name ∷ [])) (table_file (lines_of nodes) text is) some))
 
@@ -207,8 +201,6 @@ pub stopped_at_folder : (told told' : Option Tree) (path : List ℕ) (there : Bo
 stopped_at_folder None told' path there nodes start made = made
 stopped_at_folder (Some t) None path there nodes start made = made
 stopped_at_folder (Some t) (Some u) path there nodes start made = refused_folder nodes start.stored t u path there start.whole start.ready made
-
--- the causes of a refusal
 
 -- what was written at a path is what stands there
 pub wrote_there : (told told' : Option Tree) (place : Parts) (nodes : Nodes) (p : Parts) (node : Node) → get nodes p ≡ Some node → IfTold told told' (λ t t'. t' ≡ with_entry t place (host_entry (Some node))) → IfTold told told' (λ t t'. t' ≡ with_entry t place (host_entry (get nodes p)))

@@ -13,7 +13,7 @@ use Rattle.fx_store.specs.declared.changes.Change.{Change}
 use Rattle.fx_store.specs.declared.path.Path.{Path}
 use Rattle.fx_store.specs.Names.{is_name}
 use Rattle.fx_folder.specs.declared.walking.Item.{Item}
-use Rattle.fx_folder.specs.declared.walking.Walked.{Walked}
+use Rattle.fx_folder.specs.declared.walking.Loader.{Loader}
 use Rattle.fx_table.specs.declared.fault.FolderCause.{FolderCause}
 use Rattle.fx_table.specs.declared.fault.FolderCause.TheVariants.{BadName, TooLarge}
 use Rattle.fx_table.specs.declared.fault.LoadFault.{LoadFault}
@@ -117,7 +117,7 @@ WalkCause tree at ReadFault = ⊤
 WalkCause tree at NoMemory = ⊤
 
 -- everything that a walk found, with the bytes that may still be loaded; or the first refusal
-abbrev pub AnswersWalk : Tree → Parts → Result Walked LoadFault → Type 0
+abbrev pub AnswersWalk : Tree → Parts → Result Loader LoadFault → Type 0
 AnswersWalk tree at (Ok walk) = (first_refused 1 most_bytes (walked (all_below tree at)) ≡ None)
     × (walk.found.items ≡ root_found ∷ map found_as (walked (all_below tree at))) × (walk.left ≡ most_bytes - all_bytes (walked (all_below tree at)))
 AnswersWalk tree at (Err fault) = WalkCause tree at fault

@@ -1,14 +1,17 @@
 -- What the steps of writing a folder leave.
-use Rattle.std.specs.Prelude.{◌≡◌, ◌⊎◌, ℕ, Bool, true, cond, List, [], ◌∷◌, ◌++◌, IsSome, Option, Some, None}
+use Rattle.std.specs.Prelude.{◌≡◌, ◌⊎◌, ◌≤◌, ℕ, Bool, true, cond, List, [], ◌∷◌, ◌++◌, IsSome, Option, Some, None, Result, Err, OnOk, OnErr}
 use Rattle.std.specs.FinMap.{get, insert, find, entries}
 use Rattle.fx_store.specs.declared.node.Node.{Node}
 use Rattle.fx_store.specs.Names.{path_cmp}
 use Rattle.fx_store.specs.Whole.{Nodes}
+use Rattle.fx_outside.specs.declared.kind.HostFault.{HostFault}
+use Rattle.fx_outside.specs.declared.kind.HostFault.TheVariants.{Failed}
+use Rattle.fx_outside.specs.Host.{HostView, WritesAt, WritesIn, FaultAt, FaultIn}
 use Rattle.fx_outside.specs.Path.{Parts, parts, is_fit}
 use Rattle.fx_outside.specs.Tree.{Tree, Entry, file, folder}
 use Rattle.fx_folder.specs.Places.{host_entry}
 use Rattle.fx_table.specs.Places.{rest_of}
-use Rattle.fx_folder.specs.Folder.{IsFrontOf}
+use Rattle.fx_folder.specs.Folder.{IfTold, IsFrontOf}
 
 -- the tree with the folder itself, which is made where it is not there
 abbrev pub with_folder : Tree → Parts → Bool → Tree
@@ -53,3 +56,19 @@ pub record WroteFront (tree tree' : Tree) (at : Parts) (nodes : Nodes) : Type 0 
   pub before : Tree
   pub written : HasEntries tree before at done
   pub begun : (tree' ≡ before) ⊎ ((path : Parts) × (node : Node) × (rest : List (List (List ℕ) × Node)) × (left ≡ (path, node) ∷ rest) × WrotePart before tree' (at ++ path) (host_entry (Some node)))
+
+-- A call puts an entry at a place: the entry stands there, or after a refusal nothing of it, all of it or a front of its file.
+-- The host failed where the call says so, nothing else was asked, and the count of faults does not fall.
+pub record Puts (place : Parts) (entry : Option Entry) (HasFault IsFit : Type 0) (old new : HostView) (result : Result (Unit {0}) HostFault) : Type 0 where
+  pub written : OnOk result (IfTold old.told new.told (λ tree tree'. tree' ≡ with_entry tree place entry))
+  pub partly : OnErr result (IfTold old.told new.told (λ tree tree'. WrotePart tree tree' place entry))
+  pub fault : result ≡ Err Failed → HasFault
+  pub later : old.faults ≤ new.faults
+  pub fit : IsFit
+
+-- the entry at a path, and below a folder by these names
+abbrev pub PutsAt : List ℕ → Option Entry → HostView → HostView → Result (Unit {0}) HostFault → Type 0
+PutsAt path entry old new result = Puts (parts path) entry (FaultAt path old new) (WritesAt path old new) old new result
+
+abbrev pub PutsIn : List ℕ → Parts → Option Entry → HostView → HostView → Result (Unit {0}) HostFault → Type 0
+PutsIn folder names entry old new result = Puts (parts folder ++ names) entry (FaultIn folder old new) (WritesIn folder old new) old new result

@@ -1,7 +1,7 @@
 //! Why a folder is not saved.
 use fx_base::NoMemory;
 use fx_outside::HostFault;
-use std::alloc::{AllocError, AllocFailed};
+use std::alloc::AllocError;
 
 /// Why a filestore is not saved.
 #[derive(Clone, Copy, Debug, PartialEq, Eq)]
@@ -45,17 +45,6 @@ impl From<AllocError> for SaveFault {
     ghost from_gives = { λ _ fault. fault ≡ NoMemory };
 
     fn from(_: AllocError) -> SaveFault {
-        SaveFault::NoMemory
-    }
-}
-
-impl<T: Drop> From<AllocFailed<T>> for SaveFault {
-    ghost use Rattle.std.specs.Prelude.{◌≡◌};
-    ghost use Rattle.fx_folder.specs.declared.fault.SaveFault.TheVariants.{NoMemory};
-
-    ghost from_gives = { λ _ fault. fault ≡ NoMemory };
-
-    fn from(_: AllocFailed<T>) -> SaveFault {
         SaveFault::NoMemory
     }
 }

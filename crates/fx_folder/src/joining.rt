@@ -15,7 +15,7 @@ ghost use Rattle.fx_folder.specs.Walks.{AnswersWalk};
 
 use crate::loading::{MAX_NODES, TABLE, read_whole};
 use crate::saving::table_below;
-use crate::walking::Walked;
+use crate::walking::Loader;
 use fx_base::NoMemory;
 use fx_outside::{Host, HostKind, HostText, Listing};
 use fx_store::{Change, Changes};
@@ -38,11 +38,10 @@ pub(crate) fn table_kind(alloc: Global, names: &Listing) -> Result<Option<HostKi
 
 /// What was walked of a folder, with the links and flags of its table, which is of this kind.
 pub(crate) fn with_table<H: Host>(
-    alloc: Global,
     host: &mut H,
     folder: &HostText,
     kind: HostKind,
-    walked: Walked,
+    walked: Loader,
     buf: &mut [u8],
 ) -> Result<Vec<Change>, LoadFault>
     requires room { 0 < length buf.old }
@@ -59,12 +58,12 @@ pub(crate) fn with_table<H: Host>(
     ensures same { ReadsOnly (H.view host.old) (H.view host.new) }
     ensures fit { AsksIn folder.now (H.view host.old) (H.view host.new) }
 {
-    let text = read_text(alloc, host, folder, kind, buf)?;
-    joined(alloc, walked, &text)
+    let text = read_text(walked.alloc, host, folder, kind, buf)?;
+    joined(walked, &text)
 }
 
 /// What was walked, with the links and flags of a table's text.
-fn joined(alloc: Global, walked: Walked, text: &[u8]) -> Result<Vec<Change>, LoadFault>
+fn joined(walked: Loader, text: &[u8]) -> Result<Vec<Change>, LoadFault>
     requires { AreFoundChanges walked.found.items }
     ensures shaped { IfOk result (λ all. AreShaped all.items) }
     ensures joined { IfOk result
@@ -72,7 +71,7 @@ fn joined(alloc: Global, walked: Walked, text: &[u8]) -> Result<Vec<Change>, Loa
     ensures cause { IfErr result (LinesCause (standing_by walked.found.items)
         (room_behind walked.found.items walked.left) text.now) }
 {
-    let Walked { found, left } = walked;
+    let Loader { alloc, found, left } = walked;
     let room = Room {
         links: MAX_NODES.saturating_sub(found.len() as u64),
         bytes: left,

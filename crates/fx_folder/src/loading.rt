@@ -12,7 +12,7 @@ ghost use Rattle.fx_table.specs.Shaped.{AreShaped};
 
 use crate::building::filestore_of;
 use crate::joining::{table_kind, with_table};
-use crate::walking::{Walked, walk};
+use crate::walking::{Loader, walk};
 use fx_outside::{Host, HostFault, HostText, Listing};
 use fx_store::limits::MAX_FILE_BYTES;
 use fx_store::{Bytes, Change, Filestore};
@@ -86,15 +86,15 @@ fn find_all<H: Host>(
     let table = table_kind(alloc, names)?;
     let walked = walk(alloc, host, folder, names, buf)?;
     match table {
-        Some(kind) => with_table(alloc, host, folder, kind, walked, buf),
+        Some(kind) => with_table(host, folder, kind, walked, buf),
         None => Ok(all_of(walked)),
     }
 }
 
-fn all_of(walked: Walked) -> Vec<Change>
+fn all_of(walked: Loader) -> Vec<Change>
     ensures { result.items ≡ walked.found.items }
 {
-    let Walked { found, left: _ } = walked;
+    let Loader { found, .. } = walked;
     found
 }
 

@@ -5,7 +5,7 @@ ghost use Rattle.fx_outside.specs.Host.{ReadsOnly, AsksAt, FaultIn};
 ghost use Rattle.fx_folder.specs.Folder.{IsReady, IsTaken, ReadyCause};
 
 use crate::fault::SaveFault;
-use fx_outside::{Host, HostFault, HostKind, HostText, Standing};
+use fx_outside::{Host, HostKind, HostText, Standing};
 use std::alloc::Global;
 
 /// Whether an empty folder stands at the path already. Where nothing stands there, a folder can be made if one stands
@@ -17,13 +17,11 @@ pub fn ready<H: Host>(alloc: Global, host: &mut H, folder: &HostText) -> Result<
         IfSome (H.view host.old).told (λ tree. IsReady tree folder.now there)) }
     ensures fault { IfErr result (ReadyCause folder.now (H.view host.old) (H.view host.new)) }
 {
-    match host.standing(alloc, folder) {
-        Ok(Standing::Absent) => Ok(false),
-        Ok(Standing::Is(HostKind::Folder)) => find_empty(alloc, host, folder),
-        Ok(Standing::Is(HostKind::File)) => Err(SaveFault::NotEmpty),
-        Ok(Standing::Is(HostKind::Other)) => Err(SaveFault::NotEmpty),
-        Err(HostFault::Failed) => Err(SaveFault::WriteFault),
-        Err(HostFault::NoMemory) => Err(SaveFault::NoMemory),
+    match host.standing(alloc, folder)? {
+        Standing::Absent => Ok(false),
+        Standing::Is(HostKind::Folder) => find_empty(alloc, host, folder),
+        Standing::Is(HostKind::File) => Err(SaveFault::NotEmpty),
+        Standing::Is(HostKind::Other) => Err(SaveFault::NotEmpty),
     }
 }
 
@@ -39,14 +37,9 @@ fn find_empty<H: Host>(alloc: Global, host: &mut H, folder: &HostText) -> Result
     ensures fault { result ≡ Err SaveFault.WriteFault
         → FaultIn folder.now (H.view host.old) (H.view host.new) }
 {
-    match host.list(alloc, folder) {
-        Ok(listing) => {
-            if listing.len() == 0 {
-                return Ok(true);
-            }
-            Err(SaveFault::NotEmpty)
-        }
-        Err(HostFault::Failed) => Err(SaveFault::WriteFault),
-        Err(HostFault::NoMemory) => Err(SaveFault::NoMemory),
+    let listing = host.list(alloc, folder)?;
+    if listing.len() == 0 {
+        return Ok(true);
     }
+    Err(SaveFault::NotEmpty)
 }

@@ -6,6 +6,7 @@ ghost use Rattle.fx_store.specs.Whole.{IsWhole};
 ghost use Rattle.fx_store.specs.Names.{IsPath, IsName};
 ghost use Rattle.fx_outside.specs.Path.{parts};
 ghost use Rattle.fx_outside.specs.Host.{WritesAt, WritesIn, HasFailed, FaultAt, FaultIn};
+ghost use Rattle.fx_outside.specs.declared.kind.HostFault.TheVariants.{Failed};
 ghost use Rattle.fx_outside.specs.Tree.{is_free_at, file, folder};
 ghost use Rattle.fx_folder.specs.declared.fault.SaveFault.TheVariants.{WriteFault, NotEmpty};
 ghost use Rattle.fx_table.specs.Places.{place_of, table_name};
@@ -15,7 +16,7 @@ ghost use Rattle.fx_table.specs.Table.{table_text, lines_of};
 ghost use Rattle.fx_folder.specs.Reads.{path_below};
 ghost use Rattle.fx_folder.specs.Places.{host_entry};
 ghost use Rattle.fx_folder.specs.Folder.{IsReady, IfTold, Saves, SavesPart, SaveCause};
-ghost use Rattle.fx_folder.specs.Written.{with_folder, MadePart, IsOpen, with_entry, WrotePart, HasEntries, WroteFront, file_unless_empty};
+ghost use Rattle.fx_folder.specs.Written.{with_folder, MadePart, IsOpen, with_entry, WrotePart, HasEntries, WroteFront, file_unless_empty, PutsAt, PutsIn};
 
 use crate::SaveFault;
 use fx_base::NoMemory;
@@ -49,7 +50,8 @@ pub fn save<H: Host>(
     let descent = Descent::new(alloc, store)?;
     make_folder(alloc, host, folder, there)?;
     let table = write_entries(alloc, host, folder, store, descent)?;
-    add_table(alloc, host, folder, &table)
+    add_table(alloc, host, folder, &table)?;
+    Ok(())
 }
 
 /// Makes the folder, unless it is there: the first step of what makes one.
@@ -71,11 +73,7 @@ pub fn make_folder<H: Host>(
     if there {
         return Ok(());
     }
-    match host.make_dir(alloc, folder) {
-        Ok(()) => Ok(()),
-        Err(HostFault::Failed) => Err(SaveFault::WriteFault),
-        Err(HostFault::NoMemory) => Err(SaveFault::NoMemory),
-    }
+    Ok(host.make_dir(alloc, folder)?)
 }
 
 /// Writes the directories and files of a filestore into an empty folder, in the order of their paths, by a walk that stands
@@ -86,7 +84,7 @@ fn write_entries<H: Host>(
     folder: &HostText,
     store: &Filestore,
     mut descent: Descent,
-) -> Result<LongText, SaveFault>
+) -> Result<LongText, HostFault>
     requires open { IfSome (H.view host.old).told (λ tree. IsOpen tree folder.now) }
     requires whole { IsWhole (get store.now.nodes) }
     requires levels { AreLevels store.now.nodes (levels_of descent) }
@@ -96,9 +94,8 @@ fn write_entries<H: Host>(
         (λ tree tree'. HasEntries tree tree' (parts folder.now) (entries store.now.nodes))) }
     ensures partly { OnErr result (IfTold (H.view host.old).told (H.view host.new).told
         (λ tree tree'. WroteFront tree tree' (parts folder.now) store.now.nodes)) }
-    ensures fault { result ≡ Err WriteFault
+    ensures fault { result ≡ Err Failed
         → FaultIn folder.now (H.view host.old) (H.view host.new) }
-    ensures free { result ≡ Err NotEmpty → ⊥ }
     ensures later { (H.view host.old).faults ≤ (H.view host.new).faults }
     ensures fit { WritesIn folder.now (H.view host.old) (H.view host.new) }
 {
@@ -116,20 +113,11 @@ fn write_entry<H: Host>(
     host: &mut H,
     folder: &HostText,
     entry: &Entry<'_>,
-) -> Result<(), SaveFault>
+) -> Result<(), HostFault>
     requires { IfSome (H.view host.old).told (λ tree.
         is_free_at tree (folder.now ++ place_of entry.now.path) ≡ true) }
-    ensures written { OnOk result (IfTold (H.view host.old).told (H.view host.new).told
-        (λ tree tree'. tree' ≡ with_entry tree (parts folder.now ++ entry.now.path)
-        (host_entry (Some entry.now.node.now)))) }
-    ensures partly { OnErr result (IfTold (H.view host.old).told (H.view host.new).told
-        (λ tree tree'. WrotePart tree tree' (parts folder.now ++ entry.now.path)
-        (host_entry (Some entry.now.node.now)))) }
-    ensures fault { result ≡ Err WriteFault
-        → FaultIn folder.now (H.view host.old) (H.view host.new) }
-    ensures free { result ≡ Err NotEmpty → ⊥ }
-    ensures later { (H.view host.old).faults ≤ (H.view host.new).faults }
-    ensures fit { WritesIn folder.now (H.view host.old) (H.view host.new) }
+    ensures { PutsIn folder.now entry.now.path (host_entry (Some entry.now.node.now))
+        (H.view host.old) (H.view host.new) result }
 {
     let place = place_below(alloc, folder, &entry.path)?;
     write_node(alloc, host, &place, entry.node)
@@ -141,42 +129,37 @@ fn write_node<H: Host>(
     host: &mut H,
     place: &HostText,
     node: &Node,
-) -> Result<(), SaveFault>
+) -> Result<(), HostFault>
     requires { IfSome (H.view host.old).told (λ tree. is_free_at tree place.now ≡ true) }
-    ensures written { OnOk result (IfTold (H.view host.old).told (H.view host.new).told
-        (λ tree tree'. tree' ≡ with_entry tree (parts place.now) (host_entry (Some node.now)))) }
-    ensures partly { OnErr result (IfTold (H.view host.old).told (H.view host.new).told
-        (λ tree tree'. WrotePart tree tree' (parts place.now) (host_entry (Some node.now)))) }
-    ensures fault { result ≡ Err WriteFault
-        → FaultAt place.now (H.view host.old) (H.view host.new) }
-    ensures free { result ≡ Err NotEmpty → ⊥ }
-    ensures later { (H.view host.old).faults ≤ (H.view host.new).faults }
-    ensures fit { WritesAt place.now (H.view host.old) (H.view host.new) }
+    ensures { PutsAt place.now (host_entry (Some node.now)) (H.view host.old) (H.view host.new)
+        result }
 {
     match node {
         Node::Dir(_) => write_folder(alloc, host, place),
-        Node::File { bytes, .. } => write_file(alloc, host, place, bytes.as_slice()),
+        Node::File { bytes, .. } => put_file(alloc, host, place, bytes.as_slice()),
         Node::Link(_) => Ok(()),
     }
 }
 
-fn write_folder<H: Host>(alloc: Global, host: &mut H, place: &HostText) -> Result<(), SaveFault>
+/// Makes a folder where nothing stands.
+fn write_folder<H: Host>(alloc: Global, host: &mut H, place: &HostText) -> Result<(), HostFault>
     requires { IfSome (H.view host.old).told (λ tree. is_free_at tree place.now ≡ true) }
-    ensures written { OnOk result (IfTold (H.view host.old).told (H.view host.new).told
-        (λ tree tree'. tree' ≡ with_entry tree (parts place.now) (Some folder))) }
-    ensures partly { OnErr result (IfTold (H.view host.old).told (H.view host.new).told
-        (λ tree tree'. WrotePart tree tree' (parts place.now) (Some folder))) }
-    ensures fault { result ≡ Err WriteFault
-        → FaultAt place.now (H.view host.old) (H.view host.new) }
-    ensures free { result ≡ Err NotEmpty → ⊥ }
-    ensures later { (H.view host.old).faults ≤ (H.view host.new).faults }
-    ensures fit { WritesAt place.now (H.view host.old) (H.view host.new) }
+    ensures { PutsAt place.now (Some folder) (H.view host.old) (H.view host.new) result }
 {
-    match host.make_dir(alloc, place) {
-        Ok(()) => Ok(()),
-        Err(HostFault::Failed) => Err(SaveFault::WriteFault),
-        Err(HostFault::NoMemory) => Err(SaveFault::NoMemory),
-    }
+    host.make_dir(alloc, place)
+}
+
+/// Puts a file where nothing stands.
+fn put_file<H: Host>(
+    alloc: Global,
+    host: &mut H,
+    place: &HostText,
+    bytes: &[u8],
+) -> Result<(), HostFault>
+    requires { IfSome (H.view host.old).told (λ tree. is_free_at tree place.now ≡ true) }
+    ensures { PutsAt place.now (Some (file bytes.now)) (H.view host.old) (H.view host.new) result }
+{
+    host.write_new(alloc, place, bytes)
 }
 
 /// Writes a file where nothing stands.
@@ -210,26 +193,17 @@ fn add_table<H: Host>(
     host: &mut H,
     folder: &HostText,
     text: &LongText,
-) -> Result<(), SaveFault>
+) -> Result<(), HostFault>
     requires { IfSome (H.view host.old).told (λ tree.
         is_free_at tree (path_below folder.now table_name) ≡ true) }
-    ensures written { OnOk result (IfTold (H.view host.old).told (H.view host.new).told
-        (λ tree tree'. tree' ≡ with_entry tree (parts folder.now ++ table_name ∷ [])
-        (file_unless_empty text.now))) }
-    ensures partly { OnErr result (IfTold (H.view host.old).told (H.view host.new).told
-        (λ tree tree'. WrotePart tree tree' (parts folder.now ++ table_name ∷ [])
-        (file_unless_empty text.now))) }
-    ensures fault { result ≡ Err WriteFault
-        → FaultIn folder.now (H.view host.old) (H.view host.new) }
-    ensures free { result ≡ Err NotEmpty → ⊥ }
-    ensures later { (H.view host.old).faults ≤ (H.view host.new).faults }
-    ensures fit { WritesIn folder.now (H.view host.old) (H.view host.new) }
+    ensures { PutsIn folder.now (table_name ∷ []) (file_unless_empty text.now)
+        (H.view host.old) (H.view host.new) result }
 {
     if text.len() == 0 {
         return Ok(());
     }
     let place = table_below(alloc, folder)?;
-    write_file(alloc, host, &place, text.as_slice())
+    put_file(alloc, host, &place, text.as_slice())
 }
 
 /// The host path of the table of a folder.

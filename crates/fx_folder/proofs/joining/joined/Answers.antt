@@ -1,10 +1,4 @@
-use Rattle.std.proofs.Common.{◌≡◌, true, sym, ap, subst, ◌∙◌}
-use Rattle.fx_table.specs.Listed.{with_lines}
-use Rattle.fx_table.specs.Mapped.{mapped_of}
-use Rattle.fx_table.specs.Lines.{lines_in, standing_by, AreLines}
-use Rattle.fx_table.specs.Merges.{CanMerge}
-use Rattle.fx_table.specs.Shaped.{changes_of}
-use Rattle.fx_table.specs.Table.{over, links_among}
+use Rattle.fx_folder.proofs.Prelude.{◌≡◌, true, sym, ap, subst, ◌∙◌, with_lines, mapped_of, lines_in, standing_by, AreLines, CanMerge, changes_of, over, links_among}
 use Rattle.fx_folder.proofs.Gathering.{found_shaped, found_changes, can_merge, joined_shaped}
 use Rattle.fx_folder.proofs.joining.joined.Goals as goal
 

@@ -1,9 +1,4 @@
-use Rattle.std.proofs.Common.{IfSome, option_map, subst}
-use Rattle.fx_outside.specs.Tree.{bytes_at}
-use Rattle.fx_folder.specs.Deep.{most_in_table}
-use Rattle.fx_folder.specs.Tables.{ReadsWhole}
-use Rattle.fx_table.specs.Places.{table_name}
-use Rattle.fx_folder.specs.Reads.{path_below}
+use Rattle.fx_folder.proofs.Prelude.{IfSome, option_map, subst, bytes_at, most_in_table, ReadsWhole, table_name, path_below}
 use Rattle.fx_folder.proofs.Gathering.{file_is, text_read}
 use Rattle.fx_folder.proofs.joining.read_table_file.Goals as goal
 

@@ -1,5 +1,4 @@
-use Rattle.fx_table.specs.Places.{table_name}
-use Rattle.fx_folder.specs.Reads.{path_below}
+use Rattle.fx_folder.proofs.Prelude.{table_name, path_below}
 use Rattle.fx_folder.proofs.Gathering.{table_file, text_of_file}
 use Rattle.fx_folder.proofs.Texts.{lets_table}
 use Rattle.fx_folder.proofs.joining.read_text.Goals as goal

@@ -1,7 +1,4 @@
-use Rattle.std.proofs.Common.{IfOk, IfErr, subst}
-use Rattle.fx_table.specs.Lines.{standing_by, LinesCause}
-use Rattle.fx_folder.specs.Tables.{IsJoined, room_behind}
-use Rattle.fx_base.proofs.Errors.{err_of}
+use Rattle.fx_folder.proofs.Prelude.{IfOk, IfErr, subst, standing_by, LinesCause, IsJoined, room_behind, err_of}
 use Rattle.fx_folder.proofs.Gathering.{joined_told, unread_told}
 use Rattle.fx_folder.proofs.joining.with_table.Goals as goal
 

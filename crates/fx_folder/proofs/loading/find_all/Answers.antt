@@ -1,6 +1,4 @@
-use Rattle.std.proofs.Common.{sym, subst, ◌∙◌}
-use Rattle.fx_outside.specs.Path.{parts}
-use Rattle.fx_table.specs.Shaped.{AreShaped}
+use Rattle.fx_folder.proofs.Prelude.{sym, subst, ◌∙◌, parts, AreShaped}
 use Rattle.fx_folder.proofs.Gathering.{lists_told, found_shaped, bare_told}
 use Rattle.fx_folder.proofs.loading.find_all.Goals as goal
 

@@ -1,6 +1,4 @@
-use Rattle.std.proofs.Common.{refl, ◌≡◌, ◌++◌, length, take, arith}
-use Rattle.std.proofs.lemmas.Grind.{common_steps}
-use Rattle.fx_outside.proofs.Views.{reads_then, at_then}
+use Rattle.fx_folder.proofs.Prelude.{refl, ◌≡◌, ◌++◌, length, take, arith, common_steps, reads_then, at_then}
 use Rattle.fx_folder.proofs.Reading.{front_told}
 use Rattle.fx_folder.proofs.loading.read_whole.Goals as goal
 

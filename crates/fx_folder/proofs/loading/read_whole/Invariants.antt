@@ -1,6 +1,4 @@
-use Rattle.std.proofs.Common.{◌≡◌, ◌-◌, ◌≤◌, length, take, IfSome}
-use Rattle.fx_outside.specs.Host.{ReadsOnly, AsksAt}
-use Rattle.fx_outside.specs.Tree.{bytes_at}
+use Rattle.fx_folder.proofs.Prelude.{◌≡◌, ◌-◌, ◌≤◌, length, take, IfSome, ReadsOnly, AsksAt, bytes_at}
 use Rattle.fx_folder.proofs.loading.read_whole.Given as goal
 
 abbrev pub invariant-loop-bytes : goal.invariant-loop-bytes

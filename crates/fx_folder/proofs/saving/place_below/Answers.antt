@@ -1,6 +1,4 @@
-use Rattle.std.proofs.Common.{rules, arith, sym, subst}
-use Rattle.std.specs.Str.{IsUtf8}
-use Rattle.std.proofs.lemmas.Grind.{common_steps}
+use Rattle.fx_folder.proofs.Prelude.{rules, arith, sym, subst, IsUtf8, common_steps}
 use Rattle.fx_folder.proofs.Texts.{utf8_then}
 use Rattle.fx_folder.proofs.saving.place_below.Goals as goal
 

@@ -1,7 +1,4 @@
-use Rattle.std.proofs.Common.{◌≡◌, ◌++◌}
-use Rattle.std.specs.Slice.Iter.{iter_rest}
-use Rattle.std.specs.Str.{IsUtf8}
-use Rattle.fx_table.specs.Places.{place_of}
+use Rattle.fx_folder.proofs.Prelude.{◌≡◌, ◌++◌, iter_rest, IsUtf8, place_of}
 use Rattle.fx_folder.proofs.saving.place_below.Given as goal
 
 abbrev pub invariant-loop-name : goal.invariant-loop-name

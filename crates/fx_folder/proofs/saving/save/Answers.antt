@@ -20,8 +20,8 @@ add_table-requires g c =
 
 pub returns-clause-saved : goal.returns-clause-saved
 returns-clause-saved g c =
-    saved_all c.add_table.result (g.H.Host.view c.args.host.now).told (g.H.Host.view c.make_folder.new.host).told (g.H.Host.view c.write_entries.new.host).told (g.H.Host.view c.add_table.new.host).told c.args.folder.now c.args.there c.args.store.now.nodes c.in_ok-table.table c.in_ok-descent.ensures.whole c.in_ok-table.ensures.text c.in_ok-make_folder.ensures.made c.in_ok-table.ensures.written c.add_table.ensures.written
+    saved_all (g.H.Host.view c.args.host.now).told (g.H.Host.view c.make_folder.new.host).told (g.H.Host.view c.write_entries.new.host).told (g.H.Host.view c.add_table.new.host).told c.args.folder.now c.args.there c.args.store.now.nodes c.in_ok-table.table c.in_ok-descent.ensures.whole c.in_ok-table.ensures.text c.in_ok-make_folder.ensures.made c.in_ok-table.ensures.written c.in_ok-add_table.ensures.written
 
-pub returns-clause-part : goal.returns-clause-part
-returns-clause-part g c =
-    stopped_in_table c.add_table.result (g.H.Host.view c.args.host.now).told (g.H.Host.view c.make_folder.new.host).told (g.H.Host.view c.write_entries.new.host).told (g.H.Host.view c.add_table.new.host).told c.args.folder.now c.args.there c.args.store.now.nodes c.in_ok-table.table c.in_ok-descent.ensures.whole c.in_ok-table.ensures.text c.in_ok-make_folder.ensures.made c.in_ok-table.ensures.written c.add_table.ensures.partly
+pub returns-in_err-add_table-clause-part : goal.returns-in_err-add_table-clause-part
+returns-in_err-add_table-clause-part g c =
+    OnErr-from _ _ (stopped_in_table (g.H.Host.view c.args.host.now).told (g.H.Host.view c.make_folder.new.host).told (g.H.Host.view c.write_entries.new.host).told (g.H.Host.view c.add_table.new.host).told c.args.folder.now c.args.there c.args.store.now.nodes c.in_ok-table.table c.in_ok-descent.ensures.whole c.in_ok-table.ensures.text c.in_ok-make_folder.ensures.made c.in_ok-table.ensures.written c.in_err-add_table.ensures.partly)

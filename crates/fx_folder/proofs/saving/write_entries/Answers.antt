@@ -1,7 +1,4 @@
-use Rattle.std.proofs.Common.{◌++◌}
-use Rattle.fx_base.proofs.Results.{OnErr-from}
-use Rattle.fx_outside.specs.Path.{parts}
-use Rattle.fx_table.proofs.TableTexts.{listing_starts, listing_more}
+use Rattle.fx_folder.proofs.Prelude.{◌++◌, OnErr-from, parts, listing_starts, listing_more}
 use Rattle.fx_folder.proofs.Writes.{starts_writing, stops_before, stops_in, is_free, goes_on, wrote_there, part_there}
 use Rattle.fx_folder.proofs.saving.write_entries.Goals as goal
 

@@ -1,7 +1,4 @@
-use Rattle.std.proofs.Common.{length}
-use Rattle.fx_table.specs.Remaining.{left_of}
-use Rattle.fx_table.specs.Entered.{levels_of}
-use Rattle.fx_table.proofs.TableTexts.{IsListing}
+use Rattle.fx_folder.proofs.Prelude.{length, left_of, levels_of, IsListing}
 use Rattle.fx_folder.proofs.Writes.{IsWriting}
 use Rattle.fx_folder.proofs.saving.write_entries.Given as goal
 

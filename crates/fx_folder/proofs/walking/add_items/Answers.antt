@@ -1,5 +1,4 @@
-use Rattle.std.proofs.Common.{◌≡◌, ◌+◌, ◌-◌, ◌++◌, ◌∷◌, [], sym, ◌∙◌, ap, arith}
-use Rattle.std.specs.FinMap.{entries, len-entries}
+use Rattle.fx_folder.proofs.Prelude.{◌≡◌, ◌+◌, ◌-◌, ◌++◌, ◌∷◌, [], sym, ◌∙◌, ap, arith, entries, len-entries}
 use Rattle.fx_folder.proofs.Items.{nothing_left, not_past, one_item, no_item}
 use Rattle.fx_folder.proofs.walking.add_items.Goals as goal
 

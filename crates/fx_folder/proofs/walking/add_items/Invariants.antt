@@ -1,6 +1,4 @@
-use Rattle.std.proofs.Common.{◌≡◌, ◌++◌, drop}
-use Rattle.std.specs.FinMap.{entries}
-use Rattle.fx_folder.specs.Walks.{items_of}
+use Rattle.fx_folder.proofs.Prelude.{◌≡◌, ◌++◌, drop, entries, items_of}
 use Rattle.fx_folder.proofs.walking.add_items.Given as goal
 
 abbrev pub invariant-loop-i : goal.invariant-loop-i

@@ -1,8 +1,4 @@
-use Rattle.std.proofs.Common.{◌++◌, IfSome, ap, subst, ◌∙◌}
-use Rattle.std.specs.FinMap.{entries}
-use Rattle.fx_outside.specs.Path.{parts}
-use Rattle.fx_outside.specs.Tree.{Lists}
-use Rattle.fx_folder.specs.Walks.{items_of}
+use Rattle.fx_folder.proofs.Prelude.{◌++◌, IfSome, ap, subst, ◌∙◌, entries, parts, Lists, items_of}
 use Rattle.fx_folder.proofs.walking.enter_folder.Goals as goal
 
 pub returns-clause-todo : goal.returns-clause-todo

@@ -1,7 +1,4 @@
-use Rattle.std.proofs.Common.{◌≡◌, sym, arith, rules}
-use Rattle.std.specs.Prelude.{bytes_eq}
-use Rattle.std.proofs.lemmas.Grind.{common_steps}
-use Rattle.fx_table.specs.Places.{table_name}
+use Rattle.fx_folder.proofs.Prelude.{◌≡◌, sym, arith, rules, bytes_eq, common_steps, table_name}
 use Rattle.fx_folder.proofs.Items.{deep_apart, at_root}
 use Rattle.fx_folder.proofs.walking.is_table.Goals as goal
 
