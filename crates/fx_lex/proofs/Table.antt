@@ -1,5 +1,5 @@
 -- What the kind of a byte tells, and the table of kinds.
-use Rattle.std.proofs.Common.{◌≡◌, ℕ, ◌<◌, ◌≤◌, Bool, true, false, cond, ◌||◌, eqb, map, get_or, refl, sym, ap, ◌∙◌, arith}
+use Rattle.std.proofs.Common.{◌≡◌, ℕ, ◌<◌, ◌≤◌, Bool, true, false, cond, ◌&&◌, eqb, leb, map, get_or, refl, sym, ap, ◌∙◌, arith}
 use Rattle.std.specs.List.{range_with_len}
 use Rattle.std.proofs.lemmas.Bool.{eqb-true}
 use Rattle.std.proofs.lemmas.List.FromFn.{get_or-map-range_with_len}
@@ -16,12 +16,12 @@ pub kind_at : (b : ℕ) → b < 256 → get_or KINDS b 0 ≡ byte_kind b
 kind_at b below = ap (λ l. get_or l b 0) (sym kinds_are) ∙ get_or-map-range_with_len byte_kind 0 256 b b 0 below (omega arith)
 
 -- a byte of a word begins a word or a number
-word_kinds : map (λ b. eqb (byte_kind b) 2 || eqb (byte_kind b) 3) (range_with_len 0 256) ≡ map is_word_byte (range_with_len 0 256)
+word_kinds : map (λ b. leb 2 (byte_kind b) && leb (byte_kind b) 3) (range_with_len 0 256) ≡ map is_word_byte (range_with_len 0 256)
 word_kinds = refl
 
-pub word_kind : (b : ℕ) → b < 256 → (eqb (byte_kind b) 2 || eqb (byte_kind b) 3) ≡ is_word_byte b
+pub word_kind : (b : ℕ) → b < 256 → (leb 2 (byte_kind b) && leb (byte_kind b) 3) ≡ is_word_byte b
 word_kind b below =
-    sym (get_or-map-range_with_len (λ b. eqb (byte_kind b) 2 || eqb (byte_kind b) 3) 0 256 b b false below (omega arith)) ∙ ap (λ l. get_or l b false) word_kinds ∙ get_or-map-range_with_len is_word_byte 0 256 b b false below (omega arith)
+    sym (get_or-map-range_with_len (λ b. leb 2 (byte_kind b) && leb (byte_kind b) 3) 0 256 b b false below (omega arith)) ∙ ap (λ l. get_or l b false) word_kinds ∙ get_or-map-range_with_len is_word_byte 0 256 b b false below (omega arith)
 
 -- the first of the tests that holds gives the kind
 abbrev Tells : ℕ → Bool → Bool → Bool → Bool → Bool → Type 0

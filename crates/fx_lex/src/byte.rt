@@ -49,7 +49,7 @@ fn is_word_byte(b: u8) -> bool
     ensures { result ≡ is_word_byte b }
 {
     let kind = kind_of(b);
-    kind == WORD || kind == NUMBER
+    kind >= WORD && kind <= NUMBER
 }
 
 /// How many bytes at the front are letters, digits or `_`.

@@ -50,7 +50,8 @@ pub fn lex(alloc: Global, text: &[u8]) -> Result<Tokens, LexFault>
     Ok(Tokens::of(items, text.len() as u32))
 }
 
-/// Adds the token that stands in the text from `start` up to `stop`.
+/// Adds the token that stands in the text from `start` up to `stop`. A call would copy the token once more.
+#[inline(always)]
 fn push(items: &mut Vec<Spanned>, token: Token, start: usize, stop: usize) -> Result<(), NoMemory>
     requires ordered { start ≤ stop }
     requires short { stop ≤ source_limit }
