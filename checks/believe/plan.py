@@ -238,8 +238,9 @@ SECTIONS = (
     ),
     Section(
         "What a folder loads as",
-        "These need not be read. By the law `loaded_folders_stay` a folder that loads is the folder"
-        " of what it loads as, as the section above says. Only an empty table may go.",
+        "These need not be read. By the law `folders_are_what_they_load_as` a folder loads as a"
+        " filestore exactly if it is its folder, as the section above says. Only an empty table may"
+        " go.",
         ("fx_folder.Loads.Loads",),
         folds_laws=True,
     ),
@@ -386,6 +387,8 @@ LAWS_AT = {
     "fx_folder::laws::folders_are_loaded": "The folder of a filestore",
     "fx_folder_laws::lib::loaded_folders_stay": "The folder of a filestore",
     "fx_folder_laws::lib::saved_folders_are_same": "The folder of a filestore",
+    "fx_folder_laws::lib::folders_are_what_they_load_as": "The folder of a filestore",
+    "fx_folder_laws::lib::folders_are_of_one": "The folder of a filestore",
     "fx_machine::laws::the_conflicts_of_a_run_are_its_retries": "The machine of looks and settles",
     "fx_laws::moves::moves_lead_to_places": "Moves and fetches",
     "fx_laws::pairs::what_is_not_consulted_stays": "Transactions, run whole",
