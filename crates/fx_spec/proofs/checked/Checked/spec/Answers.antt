@@ -1,6 +1,9 @@
-use Rattle.std.proofs.Common.{refl}
+use Rattle.std.proofs.Common.{ap, sym}
 use Rattle.fx_spec.specs.TextViews.{written}
+use Rattle.fx_spec.specs.Views.{spec_tree}
+use Rattle.fx_spec.specs.declared.description.Description.{Description}
 use Rattle.fx_spec.proofs.checked.Checked.spec.Goals as goal
 
 pub returns : goal.returns
-returns c = (written c.self.inside.description.value, record { checked = c.self.invariant; means = c.self.view_is }, refl)
+returns c =
+    (written c.self.inside.description.value, record { checked = c.self.invariant; means = c.self.view_is }, ap (λ (d : Description). spec_tree d.root) (sym c.deref.ensures))
