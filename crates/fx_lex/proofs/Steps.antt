@@ -1,7 +1,7 @@
 -- A reading goes on by one piece.
 use Rattle.std.proofs.Common.{◌≡◌, ℕ, ◌+◌, ◌≤◌, ◌<◌, List, [], ◌∷◌, ◌++◌, length, drop, take, refl, sym, ap, ◌∙◌, subst, arith, append_assoc, length-append}
 use Rattle.std.specs.List.{flat_map}
-use Rattle.std.proofs.lemmas.List.{flat_map_more, drop-drop, drop_all, take-append-drop, length-take-le, length-drop}
+use Rattle.std.proofs.lemmas.List.{flat_map_more, drop-drop, drop_all, take-append-drop, length-take-le, length-drop, length_push}
 use Rattle.fx_lex.specs.declared.token.Token.{Token}
 use Rattle.fx_lex.specs.declared.token.Spanned.{Spanned}
 use Rattle.fx_lex.specs.Reading.{IsGap, StandsAt, Piece, Gap, Lexeme, piece_bytes, IsPiece, ArePieces, spans, Reads, AreTokensOf, HasNoPiece, IsBadAt}
@@ -65,6 +65,12 @@ module _ (text : List ℕ) (place n : ℕ) (tokens : List Spanned) (r : Reads te
       let next = reads_token text (take n (drop place text)) (drop n (drop place text)) place tokens parted t stands in
       let here = subst (λ m. Reads text (place + m) (drop n (drop place text)) (tokens ++ record { token = t; start = place; stop = place + m } ∷ [])) (length-take-le n (drop place text) within) next in
       subst (λ l. Reads text (place + n) l (tokens ++ record { token = t; start = place; stop = place + n } ∷ [])) (drop-drop n place text) here
+
+-- a token that is found and pushed: the reading goes on behind it, within the text, and no more tokens were read than bytes
+pub steps_on : (text : List ℕ) (place n : ℕ) (tokens : List Spanned) (t : Token) → Reads text place (drop place text) tokens → place ≤ length text → length tokens ≤ place → (0 < n) × (n ≤ length (drop place text)) × StandsAt (take n (drop place text)) (drop n (drop place text)) t → (more : List Spanned) → more ≡ tokens ++ record { token = t; start = place; stop = place + n } ∷ [] → Reads text (place + n) (drop (place + n) text) more × (place + n ≤ length text) × (length more ≤ place + n)
+steps_on text place n tokens t r low few here more pushed =
+    let grown : length more ≡ length tokens + 1 = ap length pushed ∙ length_push tokens _ in
+    (subst (λ l. Reads text (place + n) (drop (place + n) text) l) (sym pushed) (steps_token text place n tokens r here.1 t here.2), omega (arith, here.1, length-drop place text, low), omega (arith, here.0, few, grown))
 
 -- at the end of the text
 pub reads_end : (text : List ℕ) (place : ℕ) (tokens : List Spanned) → Reads text place (drop place text) tokens → place ≤ length text → length text ≤ place → AreTokensOf text tokens

@@ -9,5 +9,6 @@ use Rattle.fx_lex.specs.Reading.{IsGap, StandsAt, HasNoPiece}
 abbrev pub IsFoundAt : List ℕ → Found → Type 0
 IsFoundAt bytes (found.Gap n) = (0 < n) × (n ≤ length bytes) × IsGap (take n bytes) (drop n bytes)
 IsFoundAt bytes (found.Word n) = (0 < n) × (n ≤ length bytes) × StandsAt (take n bytes) (drop n bytes) (token.Word (take n bytes))
+IsFoundAt bytes (found.Mark mark n) = (0 < n) × (n ≤ length bytes) × StandsAt (take n bytes) (drop n bytes) (token.Mark mark)
 IsFoundAt bytes (found.Token token n) = (0 < n) × (n ≤ length bytes) × StandsAt (take n bytes) (drop n bytes) token
 IsFoundAt bytes found.Nothing = HasNoPiece bytes

@@ -40,6 +40,10 @@ pub fn lex(alloc: Global, text: &[u8]) -> Result<Tokens, LexFault>
                 push(&mut items, Token::Word(word), at, at + len)?;
                 at += len;
             }
+            Found::Mark(mark, len) => {
+                push(&mut items, Token::Mark(mark), at, at + len)?;
+                at += len;
+            }
             Found::Token(token, len) => {
                 push(&mut items, token, at, at + len)?;
                 at += len;

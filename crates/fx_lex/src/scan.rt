@@ -9,7 +9,7 @@ use crate::byte::{BLANK, COMMENT, NUMBER, STRING, WORD, digits_len, kind_of, lin
 use crate::mark::{mark_of_one, mark_of_two};
 use crate::number::number_of;
 use crate::string::string_at;
-use crate::token::Token;
+use crate::token::{Mark, Token};
 use fx_base::NoMemory;
 use fx_expr::WORD_LIMIT;
 use std::alloc::Global;
@@ -20,7 +20,8 @@ pub(crate) enum Found {
     Gap(usize),
     /// A word, which is still to be cut out of the text.
     Word(usize),
-    /// A token other than a word.
+    Mark(Mark, usize),
+    /// A number or a string.
     Token(Token, usize),
     Nothing,
 }
@@ -59,11 +60,11 @@ fn mark_at(bytes: &[u8]) -> Found
     let first = bytes[0];
     if bytes.len() > 1 && bytes[1] == first {
         if let Some(mark) = mark_of_two(first) {
-            return Found::Token(Token::Mark(mark), 2);
+            return Found::Mark(mark, 2);
         }
     }
     match mark_of_one(first) {
-        Some(mark) => Found::Token(Token::Mark(mark), 1),
+        Some(mark) => Found::Mark(mark, 1),
         None => Found::Nothing,
     }
 }

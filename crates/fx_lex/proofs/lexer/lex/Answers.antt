@@ -1,12 +1,12 @@
 use Rattle.std.proofs.Common.{◌≡◌, ◌+◌, ◌-◌, [], ◌∷◌, ◌++◌, length, take, drop, sym, ap, ◌∙◌, subst, inl, arith, length-drop}
-use Rattle.std.proofs.lemmas.List.{take_rest, length_push}
+use Rattle.std.proofs.lemmas.List.{take_rest}
 use Rattle.std.specs.Prelude.{slice_range}
 use Rattle.fx_expr.specs.Bytes.{IsWordAt}
 use Rattle.fx_lex.specs.declared.token.Token.TheVariants as token
 use Rattle.fx_lex.specs.declared.token.LexFault.TheVariants.{BadToken}
-use Rattle.fx_lex.specs.Reading.{Reads, AreTokensOf, IsBadAt}
+use Rattle.fx_lex.specs.Reading.{AreTokensOf, IsBadAt}
 use Rattle.fx_lex.specs.Found.{IsFoundAt}
-use Rattle.fx_lex.proofs.Steps.{steps_gap, steps_token, reads_end, reads_bad}
+use Rattle.fx_lex.proofs.Steps.{steps_gap, steps_on, reads_end, reads_bad}
 use Rattle.fx_lex.proofs.Stands.{word_place}
 use Rattle.fx_lex.proofs.Unique.{tokens_unique, place_unique, tokens_exclude}
 use Rattle.fx_lex.proofs.lexer.lex.Goals as goal
@@ -36,18 +36,23 @@ pub loop-at-preserved-in-Word : goal.loop-at-preserved-in-Word
 loop-at-preserved-in-Word c =
     let text = c.args.text.now in
     let at = c.loop-at.at in
+    let len = c.in-Word.len in
     let found = subst (λ l. IsFoundAt l c.in_ok-len.field-0) (take_rest text at) c.in_ok-len.ensures in
     let here = subst (λ f. IsFoundAt (drop at text) f) c.in-Word.is found in
-    let len = c.in-Word.len in
     let size : at + len - at ≡ len = omega arith in
     let cut : c.in_ok-word-in-Word.word ≡ take len (drop at text) = c.in_ok-word-in-Word.ensures ∙ ap (λ l. slice_range l at (at + len)) c.in_ok-shared.ensures.ok ∙ ap (λ m. take m (drop at text)) size in
     let pushed = c.in_ok-push-in-Word.ensures ∙ ap (λ w. c.loop-at.items.items ++ record { token = token.Word w; start = at; stop = at + len } ∷ []) cut in
-    let grown : length c.push.new.items.items ≡ length c.loop-at.items.items + 1 = ap length pushed ∙ length_push _ _ in
-    record {
-      reads = subst (λ l. Reads text (at + len) (drop (at + len) text) l) (sym pushed) (steps_token text at len c.loop-at.items.items c.loop-at.invariant.reads here.1 (token.Word (take len (drop at text))) here.2);
-      within = omega (arith, here.1, length-drop at text, c.loop-at.invariant.within);
-      few = omega (arith, here.0, c.loop-at.invariant.few, grown);
-    }
+    let next = steps_on text at len c.loop-at.items.items (token.Word (take len (drop at text))) c.loop-at.invariant.reads c.loop-at.invariant.within c.loop-at.invariant.few here c.push.new.items.items pushed in
+    record { reads = next.0; within = next.1; few = next.2 }
+
+pub loop-at-preserved-in-Mark : goal.loop-at-preserved-in-Mark
+loop-at-preserved-in-Mark c =
+    let text = c.args.text.now in
+    let at = c.loop-at.at in
+    let found = subst (λ l. IsFoundAt l c.in_ok-len.field-0) (take_rest text at) c.in_ok-len.ensures in
+    let here = subst (λ f. IsFoundAt (drop at text) f) c.in-Mark.is found in
+    let next = steps_on text at c.in-Mark.len c.loop-at.items.items (token.Mark c.in-Mark.mark) c.loop-at.invariant.reads c.loop-at.invariant.within c.loop-at.invariant.few here c.push-in-Mark.new.items.items c.in_ok-push-in-Mark.ensures in
+    record { reads = next.0; within = next.1; few = next.2 }
 
 pub loop-at-preserved : goal.loop-at-preserved
 loop-at-preserved c =
@@ -55,13 +60,8 @@ loop-at-preserved c =
     let at = c.loop-at.at in
     let found = subst (λ l. IsFoundAt l c.in_ok-len.field-0) (take_rest text at) c.in_ok-len.ensures in
     let here = subst (λ f. IsFoundAt (drop at text) f) c.in-Token.is found in
-    let pushed = c.in_ok-push-in-Token.ensures in
-    let grown : length c.push-in-Token.new.items.items ≡ length c.loop-at.items.items + 1 = ap length pushed ∙ length_push _ _ in
-    record {
-      reads = subst (λ l. Reads text (at + c.in-Token.len) (drop (at + c.in-Token.len) text) l) (sym pushed) (steps_token text at c.in-Token.len c.loop-at.items.items c.loop-at.invariant.reads here.1 c.in-Token.token here.2);
-      within = omega (arith, here.1, length-drop at text, c.loop-at.invariant.within);
-      few = omega (arith, here.0, c.loop-at.invariant.few, grown);
-    }
+    let next = steps_on text at c.in-Token.len c.loop-at.items.items c.in-Token.token c.loop-at.invariant.reads c.loop-at.invariant.within c.loop-at.invariant.few here c.push-in-Token.new.items.items c.in_ok-push-in-Token.ensures in
+    record { reads = next.0; within = next.1; few = next.2 }
 
 bad : (c : goal.After-drop-shared-in-Nothing) → IsBadAt c.args.text.now c.loop-at.at
 bad c =
