@@ -159,9 +159,9 @@ class Ticker:
         """Leaves a line that is written over empty."""
         if self.length:
             self.write_over("")
-            self.length = 0
+            print("\r", end="", file=self.out, flush=True)
 
     def write_over(self, words: str) -> None:
-        """Writes words in place of the last ones, and goes back to their beginning."""
-        print(f"\r{words.ljust(self.length)}\r{words}", end="", file=self.out, flush=True)
+        """Writes words in place of the last ones."""
+        print(f"\r{words.ljust(self.length)}", end="", file=self.out, flush=True)
         self.length = len(words)

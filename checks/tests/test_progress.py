@@ -153,11 +153,11 @@ class Ticks(unittest.TestCase):
             self.now += 1
             ticker.tick(lambda _: words)
         ticker.end()
-        self.assertEqual(out.getvalue(), "\ra long one\ra long one\rshort     \rshort\r     \r")
+        self.assertEqual(out.getvalue(), "\ra long one\rshort     \r     \r")
 
     def test_on_a_narrow_terminal_it_is_cut(self) -> None:
         out = Terminal()
         ticker = self.ticker(out, 6)
         self.now += 1
         ticker.tick(lambda _: "a long one")
-        self.assertEqual(out.getvalue(), "\ra lon\ra lon")
+        self.assertEqual(out.getvalue(), "\ra lon")
