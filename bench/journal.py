@@ -65,7 +65,7 @@ def committed(scratch: str, mode: str, count: int) -> float:
         connection.execute("BEGIN IMMEDIATE")
         connection.execute("UPDATE files SET text = ? WHERE name = 'a'", (str(i),))
         connection.execute("COMMIT")
-    seconds = time.monotonic() - begin
+    seconds = measure.since(begin)
     connection.close()
     return seconds
 
