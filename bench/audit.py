@@ -73,7 +73,7 @@ def beside_run(each: int) -> measure.Line:
             best.peak_kib,
             "run, processor",
             ran.user,
-            f"seconds of processor; {best.seconds:.3f} s on the clock",
+            f"seconds of processor; {measure.amount(best.seconds)} on the clock",
             goals,
         )
 

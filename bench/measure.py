@@ -203,7 +203,7 @@ def beyond(
     makers = [maker("none", none), maker("some", some)]
     (idle, _), (ran, out) = best(scratch, makers, repeats, by, beside)
     left_out = by.seconds(idle)
-    more = f"load and save, {left_out:.3f} s, left out"
+    more = f"load and save, {amount(left_out)}, left out"
     return ran, max(by.seconds(ran) - left_out, 0.001), more, out
 
 
@@ -272,6 +272,18 @@ def number(seconds: float) -> str:
     return "" if math.isnan(seconds) else f"{seconds:.3f}"
 
 
+def amount(seconds: float) -> str:
+    """Seconds in words, or what is counted in their place."""
+    if math.isnan(seconds):
+        return "no number"
+    return f"{seconds:.3f} {unit()}"
+
+
+def unit() -> str:
+    """What is counted."""
+    return "10^9" if Counting.is_on else "s"
+
+
 def growth(after: Line, before: Line | None) -> str:
     """How many times more seconds, per how many times more input; 1 is linear."""
     if before is None:
@@ -311,8 +323,7 @@ def cells(line: Line, before: Line | None, is_first: bool) -> list[str]:
 
 def head() -> list[str]:
     """The head of the table, with what is counted."""
-    unit = "10^9" if Counting.is_on else "s"
-    return [{"s": unit, "peer s": f"peer {unit}"}.get(word, word) for word in HEAD]
+    return [{"s": unit(), "peer s": f"peer {unit()}"}.get(word, word) for word in HEAD]
 
 
 def row(words: list[str]) -> None:

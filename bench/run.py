@@ -90,7 +90,7 @@ def loaded_and_saved(
     peer = CP if disk else CALLS
     if peer not in peers:
         peer, goals = CP, ()
-    told = [f"{name} {seconds:.3f}" for name, seconds in peers.items() if name != peer]
+    told = [f"{name} {measure.amount(it)}" for name, it in peers.items() if name != peer]
     return measure.Line(
         kind,
         size,
@@ -98,7 +98,7 @@ def loaded_and_saved(
         ours.peak_kib,
         peer,
         peers[peer],
-        ", ".join([*told, f"{ours.user:.3f} in the program"]),
+        ", ".join([*told, f"{measure.amount(ours.user)} in the program"]),
         goals,
         disk,
     )

@@ -79,7 +79,7 @@ def read_only(count: int) -> measure.Line:
         watched.peak_kib,
         "trace",
         max(traced.seconds - idle_trace.seconds, 0.001),
-        f"load, save and one walk, {idle.seconds:.3f} s, left out",
+        f"load, save and one walk, {measure.amount(idle.seconds)}, left out",
         (of_peer(1.3),),
     )
 
@@ -109,7 +109,7 @@ def walked(files: int) -> measure.Line:
         files,
         seconds,
         watched.peak_kib,
-        more=f"of {WALKS + 1}; trace, {traced.seconds:.3f} s, left out",
+        more=f"of {WALKS + 1}; trace, {measure.amount(traced.seconds)}, left out",
     )
 
 

@@ -64,6 +64,12 @@ class Instructions(unittest.TestCase):
     def test_the_head_says_what_is_counted(self) -> None:
         self.assertEqual([it for it in measure.head() if "10^9" in it], ["10^9", "peer 10^9"])
 
+    def test_an_amount_is_told_with_what_is_counted(self) -> None:
+        self.assertEqual(measure.amount(1.5), "1.500 10^9")
+        self.assertEqual(measure.amount(math.nan), "no number")
+        measure.Counting.is_on = False
+        self.assertEqual(measure.amount(1.5), "1.500 s")
+
     def test_a_line_beside_a_peer_without_a_number_has_no_ratio(self) -> None:
         told = measure.cells(line(2.0, math.nan), None, True)
         self.assertEqual(told[:2] + told[3:8], ["a kind", "1,000", "2.000", "2", "", "", ""])
