@@ -33,6 +33,8 @@ ENDING = (signal.SIGINT, signal.SIGTERM, signal.SIGHUP)
 # A proof on so many bytes of memory side by side.
 OF_PROOF = 2**31
 AT_ONCE = 65_536
+# `rt` keeps nothing if the disk has less room.
+KEEPS_FROM = 5_000 * 2**20
 
 
 class Ended(Exception):
@@ -179,30 +181,40 @@ def lines_of(source: IO[bytes], ticker: Ticker) -> Iterator[str]:
 
 
 def keeps() -> bool:
-    """Whether `rt` keeps each crate that it has proved for the next run: beside the kit."""
+    """Whether `rt` keeps each crate that it has proved for the next run.
+
+    It does so beside the kit, if it may write there and the disk has room.
+    """
     told = subprocess.run(["rt", "doc"], capture_output=True, text=True, check=True).stdout
     kit = os.path.dirname(told.strip())
-    return os.access(os.path.join(os.path.dirname(kit), "rattle-kept"), os.W_OK | os.X_OK)
+    kept = os.path.join(os.path.dirname(kit), "rattle-kept")
+    return os.access(kept, os.W_OK | os.X_OK) and shutil.disk_usage(kept).free >= KEEPS_FROM
+
+
+def follow(progress: Progress, ticker: Ticker) -> None:
+    """Runs the gate, and tells how far it is."""
+    with open(os.path.join(ROOM, "log"), "w", 1) as log, gate() as source:
+        for line in lines_of(source, ticker):
+            log.write(line)
+            words = line.split()
+            if line.startswith("rt: ") and words[2:] == ["proved"]:
+                progress.is_proved(words[1], ticker.now())
+            elif line.startswith("rt: ") and words[2:4] == ["is", "kept:"]:
+                progress.is_kept(words[1])
+            ticker.tick(progress.told)
 
 
 def prove(progress: Progress) -> None:
-    """Runs the gate, and tells how far it is."""
+    """Proves all crates, or says how far it came where a signal ends it."""
     ticker = Ticker(sys.stderr, shutil.get_terminal_size().columns, time.monotonic)
     try:
-        with open(os.path.join(ROOM, "log"), "w", 1) as log, gate() as source:
-            for line in lines_of(source, ticker):
-                log.write(line)
-                words = line.split()
-                if line.startswith("rt: ") and words[2:] == ["proved"]:
-                    progress.is_proved(words[1], ticker.now())
-                elif line.startswith("rt: ") and words[2:4] == ["is", "kept:"]:
-                    progress.is_kept(words[1])
-                ticker.tick(progress.told)
+        try:
+            follow(progress, ticker)
+        finally:
+            ticker.end()
     except Ended as ended:
-        ticker.end()
         print(f"stopped: {progress.told_at_end(keeps())}", file=sys.stderr)
         sys.exit(128 + ended.number)
-    ticker.end()
 
 
 def main() -> None:

@@ -182,9 +182,10 @@ class Build(unittest.TestCase):
         self.assertEqual((status, out), (1, ""))
         self.assertRegex(err, r"\Art, which proves .*\n\Z")
 
-    def test_on_a_terminal_it_says_how_far_it_is(self) -> None:
+    def on_terminal(self, **words: str) -> tuple[int, str]:
+        """The status of a build, and what it writes to a terminal."""
         leader, terminal = pty.openpty()
-        with self.started(terminal, FAKE_PAUSE="0.7", FAKE_KEPT="fx_low fx_one") as build:
+        with self.started(terminal, **words) as build:
             os.close(terminal)
             told = b""
             try:
@@ -193,9 +194,19 @@ class Build(unittest.TestCase):
             except OSError:
                 pass
             os.close(leader)
-            self.assertEqual(build.wait(SECONDS), 0)
-        said = r"\d of 5 crates proved \(2 by an earlier run\), 0 min gone, about \d+ min left"
-        self.assertRegex(told.decode(), rf"\A(\r{said} *)+\r *\r\Z")
+            return build.wait(SECONDS), told.decode()
+
+    def test_on_a_terminal_it_says_how_far_it_is(self) -> None:
+        status, told = self.on_terminal(FAKE_PAUSE="0.7", FAKE_KEPT="fx_low fx_one")
+        self.assertEqual(status, 0)
+        said = r"\d of 5 crates proved( \(\d by an earlier run\))?, \d+ min gone, about \d+ min left"
+        self.assertRegex(told, rf"\A(\r{said} *)+\r *\r\Z")
+        self.assertIn("(2 by an earlier run)", told)
+
+    def test_on_a_terminal_a_failure_has_a_line_of_its_own(self) -> None:
+        status, told = self.on_terminal(FAKE_PAUSE="0.5", FAKE_FAILS="fx_two")
+        self.assertEqual(status, 1)
+        self.assertRegex(told, r"left *\r *\rnot proved: .*/log says why\r\n\Z")
 
     def stopped(self, number: int, **words: str) -> tuple[int, str]:
         """A build that a signal ends: its status, and what it says. Nothing runs on."""
