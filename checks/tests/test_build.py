@@ -199,7 +199,8 @@ class Build(unittest.TestCase):
     def test_on_a_terminal_it_says_how_far_it_is(self) -> None:
         status, told = self.on_terminal(FAKE_PAUSE="0.7", FAKE_KEPT="fx_low fx_one")
         self.assertEqual(status, 0)
-        said = r"\d of 5 crates proved( \(\d by an earlier run\))?, \d+ min gone, about \d+ min left"
+        count = r"\d of 5 crates proved( \(\d by an earlier run\))?"
+        said = rf"{count}, \d+ min gone, about \d+ min left"
         self.assertRegex(told, rf"\A(\r{said} *)+\r *\r\Z")
         self.assertIn("(2 by an earlier run)", told)
 
