@@ -68,7 +68,8 @@ def loaded_and_saved(
     """A run over a folder that `make` makes, which leaves it as it is.
 
     Beside it stand its calls alone, and on a disk `cp -r` of the folder. Without a compiler it is
-    `cp -r` in memory too, and nothing is asked.
+    `cp -r` in memory too, and nothing is asked. Nothing is asked of instructions either, since
+    those of the system, which are most of what a call takes, are not counted.
     """
     with tempfile.TemporaryDirectory(dir=disk) as scratch:
         folder = os.path.join(scratch, "in")
@@ -90,6 +91,8 @@ def loaded_and_saved(
     peer = CP if disk else CALLS
     if peer not in peers:
         peer, goals = CP, ()
+    if measure.Counting.is_on:
+        goals = ()
     told = [f"{name} {measure.amount(it)}" for name, it in peers.items() if name != peer]
     return measure.Line(
         kind,
