@@ -73,7 +73,7 @@ def beside_run(each: int) -> measure.Line:
             best.peak_kib,
             "run, processor",
             ran.user,
-            f"seconds of processor; {best.seconds:.3f} s on the clock",
+            f"seconds of processor; {measure.amount(best.seconds)} on the clock",
             goals,
         )
 
@@ -84,7 +84,7 @@ def of_size(size: int) -> measure.Line:
         folder_of(scratch, "x" * OUTPUT)
         count = max(1, size // (OUTPUT + 40))
         texts = [TXN * min(OF_SCRIPT, count - done) for done in range(0, count, OF_SCRIPT)]
-        ran, best, held = run_and_audit(scratch, texts, 1)
+        ran, best, held = run_and_audit(scratch, texts, REPEATS)
         return measure.Line(
             "audit: bytes of the report",
             held,

@@ -7,7 +7,6 @@ that goes through many files by `each`: reading, by `next` or by `to`, or storin
 from __future__ import annotations
 
 import os
-import shutil
 import tempfile
 from collections.abc import Iterator
 
@@ -67,7 +66,6 @@ def projects(count: int) -> measure.Line:
         for _ in range(REPEATS):
             runs.append(traced(scratch, spec, folder, scripts, count))
             peers.append(sqlite_peer.in_memory(len(PROJECTS), [steps]))
-            shutil.rmtree(os.path.join(scratch, "out"))
     ran = min(runs, key=lambda it: it.seconds)
     goals = (TRACED[count],) if count in TRACED else ()
     return measure.Line(

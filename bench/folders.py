@@ -1,6 +1,6 @@
 """`txforest run` over folders of directories, of deep trees and of links.
 
-Beside it stands `cp -r` of the same folder, in memory and on a disk.
+Beside it stand its calls alone in memory, and `cp -r` of the same folder on a disk.
 """
 
 from __future__ import annotations
@@ -9,7 +9,7 @@ import os
 from collections.abc import Iterator
 
 import measure
-from run import beside_cp, everywhere
+from run import everywhere, loaded_and_saved
 
 SIZES = [10_000, 98_999]
 IN_EACH = 100
@@ -52,5 +52,5 @@ def lines(sizes: list[int]) -> Iterator[measure.Line]:
     yield from everywhere(
         f"run: files below {LEVELS} directories", deep, [DEEP_FILES], DESCRIPTION, SCRIPT
     )
-    line = beside_cp("run: links in one folder", links, LINKS, DESCRIPTION, SCRIPT)
+    line = loaded_and_saved("run: links in one folder", links, LINKS, DESCRIPTION, SCRIPT)
     yield measure.Line(line.kind, line.size, line.seconds, line.peak_kib, more="one file for cp -r")

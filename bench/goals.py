@@ -30,18 +30,28 @@ class Goal:
 
 def of_peer(most: float) -> Goal:
     """At most a multiple of the peer's seconds."""
-    return Goal(f"{most} of the peer", lambda line, _: line.seconds <= most * line.peer_time())
+
+    def is_met(line: Line, _: Line | None) -> bool | None:
+        peer = line.peer_time()
+        return None if math.isnan(peer) else line.seconds <= most * peer
+
+    return Goal(f"{most} of the peer", is_met)
 
 
 def seconds(most: float) -> Goal:
     """At most this many seconds."""
-    return Goal(f"{most} s", lambda line, _: line.seconds <= most)
+    return Goal(f"{most} s", lambda line, _: within(line, most))
+
+
+def within(line: Line, most: float) -> bool | None:
+    """Whether a line takes at most so many seconds, if seconds are what it tells."""
+    return line.seconds <= most if line.is_timed else None
 
 
 def each(most: float, unit: float, count: int) -> Goal:
     """At most a number of units of time for each of `count` pieces of work."""
     word = {MILLISECONDS: "ms", MICROSECONDS: "us"}[unit]
-    return Goal(f"{most} {word} each", lambda line, _: line.seconds <= most * unit * count)
+    return Goal(f"{most} {word} each", lambda line, _: within(line, most * unit * count))
 
 
 def growth(times: float, most: float) -> Goal:
@@ -58,9 +68,11 @@ def growth(times: float, most: float) -> Goal:
 
 def memory(most: float) -> Goal:
     """At most a multiple of the size, in bytes, of memory held."""
-    return Goal(
-        f"{most} times the size held", lambda line, _: line.peak_kib * KIB <= most * line.size
-    )
+
+    def is_met(line: Line, _: Line | None) -> bool | None:
+        return line.peak_kib * KIB <= most * line.size if line.is_timed else None
+
+    return Goal(f"{most} times the size held", is_met)
 
 
 NEAR_LINEAR = growth(2, 2.3)

@@ -65,7 +65,7 @@ def committed(scratch: str, mode: str, count: int) -> float:
         connection.execute("BEGIN IMMEDIATE")
         connection.execute("UPDATE files SET text = ? WHERE name = 'a'", (str(i),))
         connection.execute("COMMIT")
-    seconds = time.monotonic() - begin
+    seconds = measure.since(begin)
     connection.close()
     return seconds
 
@@ -84,7 +84,8 @@ def on_disk(parent: str, count: int) -> measure.Line:
             wal.append(committed(scratch, "WAL", count))
             idle.append(journaled(scratch, spec, folder, nothing, 0).seconds)
     seconds = max(min(ours) - min(idle), 0.001)
-    more = f"load and save, {min(idle):.3f} s, left out; SQLite with a WAL {min(wal):.3f} s"
+    more = f"load and save, {measure.amount(min(idle))}, left out;"
+    more += f" SQLite with a WAL {measure.amount(min(wal))}"
     return measure.Line(
         "journal: commits on a disk",
         count,

@@ -4,23 +4,31 @@ Folders are made in memory, below /dev/shm, if that is a file system in memory. 
 a disk is made below BENCH_DISK, or else below TMPDIR. Measured are seconds of wall clock, the
 command's own seconds of processor (those of the system left out), peak memory in KiB, status and
 both outputs. The peak is at least that of the script that measures, some 13 MiB.
+
+On a busy machine instructions can be counted in place of seconds, by valgrind. They stand where
+seconds would, in thousands of millions. What is measured inside this script has none then.
 """
 
 from __future__ import annotations
 
+import math
 import os
+import re
 import shutil
 import subprocess
 import sys
 import tempfile
 import time
 from collections.abc import Callable, Iterable, Sequence
-from dataclasses import dataclass
+from dataclasses import dataclass, field
 from enum import Enum
 
 from goals import Goals
 
 KIB_OF_MIB = 1024
+INSTRUCTIONS = 1e9
+COUNTED = re.compile(rb"I +refs: +([0-9,]+)")
+NO_NUMBER = math.nan
 
 
 def file_system(folder: str) -> str:
@@ -50,6 +58,7 @@ class Run:
 
     seconds: float
     user: float
+    system: float
     peak_kib: int
     status: int
     out: bytes
@@ -57,53 +66,111 @@ class Run:
 
 
 class By(Enum):
-    """What counts of a run: seconds of wall clock, or the command's own seconds of processor."""
+    """What counts of a run.
+
+    It is the seconds of wall clock, the command's own seconds of processor, or all of these, with
+    those of the system and of all that the command starts.
+    """
 
     WALL = "wall"
     PROCESSOR = "processor"
+    ALL = "all"
 
     def seconds(self, ran: Run) -> float:
         """These seconds of a run."""
-        return ran.seconds if self is By.WALL else ran.user
+        if self is By.WALL:
+            return ran.seconds
+        return ran.user if self is By.PROCESSOR else ran.user + ran.system
+
+
+class Counting:
+    """Whether instructions are counted in place of seconds."""
+
+    is_on = False
+
+
+def since(begin: float, clock: Callable[[], float] = time.monotonic) -> float:
+    """The seconds since a moment by a clock; no number if instructions are counted."""
+    return NO_NUMBER if Counting.is_on else clock() - begin
 
 
 Maker = Callable[[str], "list[str]"]
 """The words of a command that writes to this folder."""
 
 
-def run(words: list[str], scratch: str) -> Run:
-    """Runs the words.
+def run(words: list[str], scratch: str, folder: str | None = None) -> Run:
+    """Runs the words, in this folder or where this script runs.
 
     The outputs go through files of the folder `scratch`, so that no pipe slows the program.
     """
-    out_path = os.path.join(scratch, "stdout")
-    err_path = os.path.join(scratch, "stderr")
+    out_path, err_path, counted = (
+        os.path.join(scratch, name) for name in ("stdout", "stderr", "counted")
+    )
+    if Counting.is_on:
+        words = [*valgrind(counted), *words]
     with open(out_path, "wb") as out, open(err_path, "wb") as err:
         begin = time.monotonic()
-        child = subprocess.Popen(words, stdin=subprocess.DEVNULL, stdout=out, stderr=err)
+        child = subprocess.Popen(
+            words, stdin=subprocess.DEVNULL, stdout=out, stderr=err, cwd=folder
+        )
         _, status, usage = os.wait4(child.pid, 0)
         seconds = time.monotonic() - begin
         child.returncode = os.waitstatus_to_exitcode(status)
-    with open(out_path, "rb") as out, open(err_path, "rb") as err:
-        return Run(
-            seconds, usage.ru_utime, usage.ru_maxrss, child.returncode, out.read(), err.read()
-        )
+    user, system, peak = usage.ru_utime, usage.ru_stime, usage.ru_maxrss
+    if Counting.is_on:
+        seconds = user = instructions_of(read(counted)) / INSTRUCTIONS
+        system, peak = 0.0, 0
+    return Run(seconds, user, system, peak, child.returncode, read(out_path), read(err_path))
 
 
-def done(words: list[str], scratch: str) -> Run:
+def valgrind(log: str) -> list[str]:
+    """The words before a command that have its instructions counted."""
+    return [
+        "valgrind",
+        "--tool=cachegrind",
+        "--cache-sim=no",
+        "--cachegrind-out-file=/dev/null",
+        f"--log-file={log}",
+    ]
+
+
+def instructions_of(log: bytes) -> int:
+    """The instructions that the log of a command tells."""
+    found = COUNTED.search(log)
+    if not found:
+        sys.exit(f"valgrind tells no instructions: {log.decode(errors='replace')[-200:]}")
+    return int(found[1].replace(b",", b""))
+
+
+def read(path: str) -> bytes:
+    """What a file holds."""
+    with open(path, "rb") as file:
+        return file.read()
+
+
+def done(words: list[str], scratch: str, folder: str | None = None) -> Run:
     """Runs the words, and ends the bench if their status is not 0."""
-    ran = run(words, scratch)
+    ran = run(words, scratch, folder)
     if ran.status != 0:
         sys.exit(f"status {ran.status}: {ran.err.decode(errors='replace')}")
     return ran
 
 
+def nothing() -> None:
+    """Does nothing."""
+
+
 def best(
-    scratch: str, makers: Sequence[Maker], repeats: int, by: By = By.WALL
+    scratch: str,
+    makers: Sequence[Maker],
+    repeats: int,
+    by: By = By.WALL,
+    beside: Callable[[], None] = nothing,
 ) -> list[tuple[Run, str]]:
     """Of each command the fastest of some runs, and the folder that its last run made.
 
-    The commands take turns, so that a machine that is busy for a while slows all of them.
+    The commands take turns, so that a machine that is busy for a while slows all of them. A peer
+    that is no command has its turn by `beside`.
     """
     outs = [os.path.join(scratch, f"out{i}") for i in range(len(makers))]
     runs: list[list[Run]] = [[] for _ in makers]
@@ -111,6 +178,7 @@ def best(
         for words_of, out, ran in zip(makers, outs, runs):
             shutil.rmtree(out, ignore_errors=True)
             ran.append(done(words_of(out), scratch))
+        beside()
     return [(min(ran, key=by.seconds), out) for ran, out in zip(runs, outs)]
 
 
@@ -121,6 +189,7 @@ def beyond(
     some: str,
     repeats: int,
     by: By = By.WALL,
+    beside: Callable[[], None] = nothing,
 ) -> tuple[Run, float, str, str]:
     """A run of the script `some`, what it took beyond that of `none`, and the folder that it made.
 
@@ -132,9 +201,9 @@ def beyond(
         return lambda out: words_of(out, shell)
 
     makers = [maker("none", none), maker("some", some)]
-    (idle, _), (ran, out) = best(scratch, makers, repeats, by)
+    (idle, _), (ran, out) = best(scratch, makers, repeats, by, beside)
     left_out = by.seconds(idle)
-    more = f"load and save, {left_out:.3f} s, left out"
+    more = f"load and save, {amount(left_out)}, left out"
     return ran, max(by.seconds(ran) - left_out, 0.001), more, out
 
 
@@ -173,6 +242,7 @@ class Line:
     more: str = ""
     goals: Goals = ()
     folder: str | None = None
+    is_timed: bool = field(default_factory=lambda: not Counting.is_on)
 
     def peer_time(self) -> float:
         """The peer's seconds, of a line that has a peer."""
@@ -197,6 +267,23 @@ WIDTHS = [46, 11, 6, 8, 8, 8, 8, 6, 28, 7, 0]
 TO_THE_LEFT = {0, 2, 8, 9, 10}
 
 
+def number(seconds: float) -> str:
+    """Seconds as the table has them; nothing if they are no number."""
+    return "" if math.isnan(seconds) else f"{seconds:.3f}"
+
+
+def amount(seconds: float) -> str:
+    """Seconds in words, or what is counted in their place."""
+    if math.isnan(seconds):
+        return "no number"
+    return f"{seconds:.3f} {unit()}"
+
+
+def unit() -> str:
+    """What is counted."""
+    return "10^9" if Counting.is_on else "s"
+
+
 def growth(after: Line, before: Line | None) -> str:
     """How many times more seconds, per how many times more input; 1 is linear."""
     if before is None:
@@ -215,11 +302,13 @@ def cells(line: Line, before: Line | None, is_first: bool) -> list[str]:
     peer, more = ["", ""], line.more
     if line.peer_seconds is not None:
         more = f"{line.peer}; {line.more}" if line.more else line.peer
-        peer = [f"{line.peer_seconds:.3f}", f"{line.seconds / line.peer_seconds:.2f}"]
+        ratio = line.seconds / line.peer_seconds
+        peer = [number(line.peer_seconds), "" if math.isnan(ratio) else f"{ratio:.2f}"]
     kind = line.kind if is_first else ""
     met = {None: "", True: "met", False: "not met"}[verdict(line, before)]
     where = file_system(line.folder or tempfile.gettempdir())
-    numbers = [f"{line.seconds:.3f}", f"{line.peak_kib // KIB_OF_MIB}", growth(line, before)]
+    peak = f"{line.peak_kib // KIB_OF_MIB}" if line.peak_kib else ""
+    numbers = [f"{line.seconds:.3f}", peak, growth(line, before)]
     return [
         kind,
         f"{line.size:,}",
@@ -230,6 +319,11 @@ def cells(line: Line, before: Line | None, is_first: bool) -> list[str]:
         met,
         more,
     ]
+
+
+def head() -> list[str]:
+    """The head of the table, with what is counted."""
+    return [{"s": unit(), "peer s": f"peer {unit()}"}.get(word, word) for word in HEAD]
 
 
 def row(words: list[str]) -> None:
@@ -243,7 +337,7 @@ def row(words: list[str]) -> None:
 
 def print_table(lines: Iterable[Line]) -> None:
     """Prints each line as soon as it is measured, and at the end how many reach their goals."""
-    row(HEAD)
+    row(head())
     last: Line | None = None
     verdicts = []
     for line in lines:

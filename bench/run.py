@@ -1,7 +1,7 @@
 """`txforest run` over flat folders of small files, and over one large file.
 
-Beside it stands `cp -r` of the same folder, in memory and on a disk, and what the calls alone take
-(`bare.c`).
+In memory the calls of `run` to the system and nothing else (`bare.c`) stand beside it, and the time
+of `cp -r` of the same folder is told. On a disk `cp -r` stands beside it.
 """
 
 from __future__ import annotations
@@ -27,7 +27,8 @@ REPEATS = 5
 REPEATS_ON_DISK = 1
 # Of 20,000 files and more.
 LARGE = 20_000
-OF_CP, OF_CP_ON_DISK = of_peer(0.9), of_peer(0.3)
+CP, CALLS = "cp -r", "the calls alone"
+OF_CALLS, OF_CP_ON_DISK = of_peer(1.25), of_peer(0.3)
 
 
 def flat_folder(path: str, count: int) -> None:
@@ -55,7 +56,7 @@ def bare() -> list[str]:
     return [program]
 
 
-def beside_cp(
+def loaded_and_saved(
     kind: str,
     make: Callable[[str, int], None],
     size: int,
@@ -64,7 +65,12 @@ def beside_cp(
     goals: Goals = (),
     disk: str | None = None,
 ) -> measure.Line:
-    """A run over a folder that `make` makes, beside `cp -r` of it; the run leaves it as it is."""
+    """A run over a folder that `make` makes, which leaves it as it is.
+
+    Beside it stand its calls alone, and on a disk `cp -r` of the folder. Without a compiler it is
+    `cp -r` in memory too, and nothing is asked. Nothing is asked of instructions either, since
+    those of the system, which are most of what a call takes, are not counted.
+    """
     with tempfile.TemporaryDirectory(dir=disk) as scratch:
         folder = os.path.join(scratch, "in")
         make(folder, size)
@@ -81,11 +87,24 @@ def beside_cp(
         if ours.out != REPORT:
             sys.exit(f"another report: {ours.out[:200]!r}")
         measure.check_same(folder, out)
-        alone = "".join(f"its calls alone {ran.seconds:.3f} s, " for ran, _ in calls)
-        more = f"{alone}{ours.user:.3f} s in the program"
-        return measure.Line(
-            kind, size, ours.seconds, ours.peak_kib, "cp -r", copied.seconds, more, goals, disk
-        )
+    peers = {CP: copied.seconds, **{CALLS: ran.seconds for ran, _ in calls}}
+    peer = CP if disk else CALLS
+    if peer not in peers:
+        peer, goals = CP, ()
+    if measure.Counting.is_on:
+        goals = ()
+    told = [f"{name} {measure.amount(it)}" for name, it in peers.items() if name != peer]
+    return measure.Line(
+        kind,
+        size,
+        ours.seconds,
+        ours.peak_kib,
+        peer,
+        peers[peer],
+        ", ".join([*told, f"{measure.amount(ours.user)} in the program"]),
+        goals,
+        disk,
+    )
 
 
 def everywhere(
@@ -97,15 +116,17 @@ def everywhere(
 ) -> Iterator[measure.Line]:
     """Lines of these sizes in memory, and of the last one on a disk."""
     for size in sizes:
-        goals = (OF_CP,) if size >= LARGE else ()
-        yield beside_cp(kind, make, size, description, script, goals)
+        goals = (OF_CALLS,) if size >= LARGE else ()
+        yield loaded_and_saved(kind, make, size, description, script, goals)
     most = sizes[-1]
     for disk in measure.disks():
         goals = (OF_CP_ON_DISK,) if most >= LARGE else ()
-        yield beside_cp(kind, make, most, description, script, goals, disk)
+        yield loaded_and_saved(kind, make, most, description, script, goals, disk)
 
 
 def lines(sizes: list[int]) -> Iterator[measure.Line]:
     """The lines of this bench, of these sizes or its own."""
-    yield beside_cp("run: bytes in one file", large_folder, LARGE_FILE, goals=(of_peer(1.5),))
+    yield loaded_and_saved(
+        "run: bytes in one file", large_folder, LARGE_FILE, goals=(OF_CALLS,)
+    )
     yield from everywhere("run: files in one folder", flat_folder, sizes or SIZES)

@@ -14,6 +14,7 @@ import measure
 
 SIZES = [500, 5_000, 50_000]
 BESIDE = 10
+REPEATS = 3
 DESCRIPTION = '<d : dir, {(n :: file) | n in (d only "f*")}>\n'
 
 
@@ -30,7 +31,7 @@ def shown_of(matched: list[str], beside: list[str]) -> bytes:
 
 
 def shown(count: int) -> measure.Run:
-    """A run of `show`, which has to print what stands there."""
+    """The fastest run of `show`, which has to print what stands there."""
     matched, beside = names_of(count)
     with tempfile.TemporaryDirectory() as scratch:
         folder = os.path.join(scratch, "in")
@@ -38,7 +39,8 @@ def shown(count: int) -> measure.Run:
         for name in matched + beside:
             measure.write(folder, name, f"of {name}")
         spec = measure.write(scratch, "spec", DESCRIPTION)
-        ran = measure.done([measure.program(), "show", spec, folder], scratch)
+        words = [measure.program(), "show", spec, folder]
+        ((ran, _),) = measure.best(scratch, [lambda _: words], REPEATS)
     if ran.out != shown_of(matched, beside):
         sys.exit(f"what is shown of {count} files is not what stands there")
     return ran

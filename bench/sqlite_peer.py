@@ -12,6 +12,8 @@ import tempfile
 import threading
 import time
 
+from measure import since
+
 Step = tuple[int, "str | None"]
 """A counter, and what is appended to its log; None if it counts."""
 
@@ -53,7 +55,7 @@ def in_memory(counters: int, shells: list[list[Step]]) -> float:
     begin = time.monotonic()
     for steps in shells:
         do_all(connection, steps)
-    return time.monotonic() - begin
+    return since(begin)
 
 
 def insertions(there: int, count: int) -> float:
@@ -66,7 +68,24 @@ def insertions(there: int, count: int) -> float:
         connection.execute("BEGIN IMMEDIATE")
         connection.execute("INSERT INTO names VALUES (?)", (f"a{i:04}",))
         connection.execute("COMMIT")
-    return time.monotonic() - begin
+    return since(begin)
+
+
+def look_ups(there: int, name: str, count: int) -> float:
+    """Looks a name up `count` times in a table of names in memory, a transaction each.
+
+    It tells seconds of processor.
+    """
+    connection = sqlite3.connect(":memory:", isolation_level=None)
+    connection.execute("CREATE TABLE names (name TEXT PRIMARY KEY, text TEXT)")
+    rows = [(f"f{i:05}", "") for i in range(there)]
+    connection.executemany("INSERT INTO names VALUES (?, ?)", rows)
+    begin = time.process_time()
+    for _ in range(count):
+        connection.execute("BEGIN")
+        connection.execute("SELECT text FROM names WHERE name = ?", (name,)).fetchone()
+        connection.execute("COMMIT")
+    return since(begin, time.process_time)
 
 
 def connected(path: str) -> sqlite3.Connection:
@@ -96,7 +115,7 @@ def with_journal(counters: int, shells: list[list[Step]]) -> float:
             thread.start()
         for thread in threads:
             thread.join()
-        return time.monotonic() - begin
+        return since(begin)
 
 
 def with_reader(rows: int, writers: int, each: int) -> tuple[float, float]:
@@ -124,7 +143,7 @@ def with_reader(rows: int, writers: int, each: int) -> tuple[float, float]:
             for _ in connection.execute("SELECT id, n FROM counts"):
                 pass
             connection.execute("COMMIT")
-            reading.append(time.monotonic() - begin)
+            reading.append(since(begin))
             connection.close()
 
         reader = threading.Thread(target=look)
@@ -136,6 +155,6 @@ def with_reader(rows: int, writers: int, each: int) -> tuple[float, float]:
             thread.start()
         for thread in threads:
             thread.join()
-        seconds = time.monotonic() - begin
+        seconds = since(begin)
         reader.join()
         return seconds, reading[0]

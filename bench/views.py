@@ -63,7 +63,8 @@ def lines(sizes: list[int]) -> Iterator[measure.Line]:
     for files in sizes or SIZES:
         alone, beside, seen = looked(files)
         peer, reading = sqlite_peer.with_reader(files, WRITERS, EACH)
-        more = f"SQLite's WAL: writers {peer:.3f} s, its reader {reading:.3f} s;"
+        more = f"SQLite's WAL: writers {measure.amount(peer)}, its reader"
+        more += f" {measure.amount(reading)};"
         more += f" the view saw {seen:,} of {WRITERS * EACH:,} commits"
         yield measure.Line(
             f"views: beside {WRITERS} writers of {EACH:,}",

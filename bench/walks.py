@@ -19,6 +19,7 @@ from names import empty_files
 
 SIZES = [500, 1_000, 2_000]
 ADDED = [500, 2_000]
+ADDED_REPEATS = 3
 CREATED = 1_000
 CREATED_AMONG = [5_000, 50_000]
 BEFORE, BEHIND = "a", "z"
@@ -72,7 +73,7 @@ def additions(count: int) -> measure.Line:
         commands = (
             f'fetch d : names each n in (lines("{added}")) {{ set d = (d union one(n)) store(d) }}'
         )
-        ran, seconds, more, out = walked(scratch, "dir\n", commands, 1)
+        ran, seconds, more, out = walked(scratch, "dir\n", commands, ADDED_REPEATS)
         if len(os.listdir(out)) != NAMES + count:
             sys.exit("not every name was added")
     goal = each(3, MILLISECONDS, count)

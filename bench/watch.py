@@ -1,6 +1,7 @@
 """`txforest watch` beside `txforest trace` of the same scripts, in a folder of 50,000 files.
 
-Most entries change no path on which the answer rests. A few do, and the walk tells these.
+Most entries change no path on which the answer rests. A few do, and the walk tells these. The
+first walk, of the folder as it was read, is left out of one line with loading and saving.
 """
 
 from __future__ import annotations
@@ -12,7 +13,7 @@ from collections.abc import Iterator
 
 import measure
 from folders import directories
-from goals import of_peer
+from goals import Goals, of_peer
 from trace import write_scripts
 
 ENTRIES = [1_000, 10_000]
@@ -42,14 +43,50 @@ def beside_trace(
             for word in ("watch", "trace")
         ]
         (watched, _), (traced, _) = measure.best(scratch, makers, REPEATS)
-    if watched.out.count(b"\nvalid ") != len(transactions) or watched.out.count(b" done\n") != len(
-        transactions
-    ):
-        sys.exit(f"not every transaction is done and watched: {watched.out[:200]!r}")
+    check_watched(watched, len(transactions))
     return watched, traced
 
 
-def spared(kind: str, description: str, transactions: list[str]) -> measure.Line:
+def check_watched(watched: measure.Run, count: int) -> None:
+    """Ends the bench if not each transaction is done, with an answer behind it."""
+    if watched.out.count(b"\nvalid ") != count or watched.out.count(b" done\n") != count:
+        sys.exit(f"not every transaction is done and watched: {watched.out[:200]!r}")
+
+
+def read_only(count: int) -> measure.Line:
+    """Transactions that only read, without loading, saving and the first walk."""
+    with tempfile.TemporaryDirectory() as scratch:
+        folder = os.path.join(scratch, "in")
+        directories(folder, FILES)
+        spec = measure.write(scratch, "spec", WHOLE)
+        none = [measure.write(scratch, "none", "")]
+        some = write_scripts(scratch, [LOOK] * count)
+        makers = [
+            lambda out, word=word, scripts=scripts: [
+                *(measure.program(), word, spec, folder, out, "none"),
+                *scripts,
+            ]
+            for word in ("watch", "trace")
+            for scripts in (none, some)
+        ]
+        runs = [ran for ran, _ in measure.best(scratch, makers, REPEATS)]
+    idle, watched, idle_trace, traced = runs
+    check_watched(watched, count)
+    return measure.Line(
+        "watch: reads, without the first walk",
+        count,
+        max(watched.seconds - idle.seconds, 0.001),
+        watched.peak_kib,
+        "trace",
+        max(traced.seconds - idle_trace.seconds, 0.001),
+        f"load, save and one walk, {measure.amount(idle.seconds)}, left out",
+        (of_peer(1.3),),
+    )
+
+
+def spared(
+    kind: str, description: str, transactions: list[str], goals: Goals = ()
+) -> measure.Line:
     """Transactions that change nothing on which the answer rests."""
     watched, traced = beside_trace(description, transactions, FILES)
     return measure.Line(
@@ -59,7 +96,7 @@ def spared(kind: str, description: str, transactions: list[str]) -> measure.Line
         watched.peak_kib,
         "trace",
         traced.seconds,
-        goals=(of_peer(1.3),),
+        goals=goals,
     )
 
 
@@ -72,7 +109,7 @@ def walked(files: int) -> measure.Line:
         files,
         seconds,
         watched.peak_kib,
-        more=f"of {WALKS + 1}; trace, {traced.seconds:.3f} s, left out",
+        more=f"of {WALKS + 1}; trace, {measure.amount(traced.seconds)}, left out",
     )
 
 
@@ -80,8 +117,12 @@ def lines(sizes: list[int]) -> Iterator[measure.Line]:
     """The lines of this bench, of these sizes or its own."""
     for count in sizes or ENTRIES:
         yield spared(
-            "watch: stores that the answer does not rest on", FEW, [STORE % i for i in range(count)]
+            "watch: stores that the answer does not rest on",
+            FEW,
+            [STORE % i for i in range(count)],
+            (of_peer(1.3),),
         )
     for count in sizes or ENTRIES:
         yield spared("watch: transactions that only read", WHOLE, [LOOK] * count)
+    yield from (read_only(count) for count in sizes or ENTRIES)
     yield from (walked(files) for files in WALKED)
