@@ -4,7 +4,7 @@ use Rattle.std.specs.Prelude.{slice_range}
 use Rattle.fx_expr.specs.Bytes.{IsWordAt}
 use Rattle.fx_lex.specs.declared.token.Token.TheVariants as token
 use Rattle.fx_lex.specs.declared.token.LexFault.TheVariants.{BadToken}
-use Rattle.fx_lex.specs.Reading.{Reads, AreTokensOf, IsBadAt}
+use Rattle.fx_lex.specs.Reading.{AreTokensOf, IsBadAt}
 use Rattle.fx_lex.specs.Found.{IsFoundAt}
 use Rattle.fx_lex.proofs.Steps.{steps_gap, steps_on, reads_end, reads_bad}
 use Rattle.fx_lex.proofs.Stands.{word_place}
