@@ -1,5 +1,5 @@
 -- The lines of a report are read as they are spelled.
-use Rattle.std.proofs.Common.{◌≡◌, ℕ, zero, suc, ◌^◌, ◌<◌, ◌≤◌, Bool, true, false, nat_le, List, [], ◌∷◌, ◌++◌, length, Option, Some, None, codes, refl, sym, ap, ◌∙◌, append-nil, append_assoc, arith}
+use Rattle.std.proofs.Common.{◌≡◌, ℕ, zero, suc, ◌^◌, ◌<◌, ◌≤◌, Bool, true, false, nat_le, List, [], ◌∷◌, ◌++◌, length, Some, None, codes, refl, sym, ap, ◌∙◌, append-nil, append_assoc, arith}
 use Rattle.std.specs.List.{AllByRecursion}
 use Rattle.std.specs.Option.{option_map, option_and_then}
 use Rattle.std.specs.Prelude.{bytes_eq}
@@ -12,14 +12,14 @@ use Rattle.fx_machine.specs.declared.retry.Retry.{Retry}
 use Rattle.fx_report.specs.Print.{quote, value_text}
 use Rattle.fx_report.specs.Report.{end_text, field}
 use Rattle.fx_read_report.specs.Limits.{Limits, strict}
-use Rattle.fx_read_report.specs.Numbers.{EndsDigits, after}
+use Rattle.fx_read_report.specs.Numbers.{EndsDigits}
 use Rattle.fx_read_report.specs.Values.{ArePrintedRows, IsPrinted, IsPrintedText, alone, keys_in, value_at}
 use Rattle.fx_read_report.specs.declared.values.TheConstants.{VALUE_LEVELS}
 use Rattle.fx_read_report.specs.Kinds.{kind_of}
 use Rattle.fx_read_report.specs.declared.lines.Kind.{Kind}
 use Rattle.fx_read_report.specs.declared.lines.Kind.TheVariants as kind
 use Rattle.fx_read_report.specs.Lines.{FindsLine, IsLine, Line, head, entries, entry, print, retries, retry, final, line_text}
-use Rattle.fx_read_report.specs.Reads.{end_at, entries_at, entry_at, field_at, final_at, head_at, only_line, line_by, path_at, print_at, retries_at, retry_at, small_at}
+use Rattle.fx_read_report.specs.Reads.{entries_at, entry_at, final_at, head_at, only_line, line_by, print_at, retries_at, retry_at}
 use Rattle.fx_read_report.proofs.Digits.{after_read}
 use Rattle.fx_read_report.proofs.PartLaws.{IsEndIn, IsPathIn, end_read, field_read, last_read, path_read, small_read, strict_end, strict_path}
 use Rattle.fx_read_report.proofs.ValueLoops.{ascends_of}
@@ -32,49 +32,25 @@ field_ends words n x s = refl
 entry_form : (a b c d : List ℕ) → (((a ++ b) ++ c) ++ codes " ") ++ d ≡ a ++ (b ++ (c ++ (codes " " ++ d)))
 entry_form a b c d = simp append_assoc
 
-abbrev ended_entry : Limits → ℕ → ℕ → ℕ → List ℕ → Option Line
-ended_entry m i k j rest = option_map (λ e. entry i k j e) (end_at m rest)
-
-abbrev with_txn : Limits → ℕ → ℕ → ℕ × List ℕ → Option Line
-with_txn m i k j = option_and_then (λ rest. ended_entry m i k j.0 rest) (after (codes " ") j.1)
-
-abbrev with_shell : Limits → ℕ → ℕ × List ℕ → Option Line
-with_shell m i k = option_and_then (λ j. with_txn m i k.0 j) (small_at (codes " txn ") k.1)
-
-abbrev with_number : Limits → ℕ × List ℕ → Option Line
-with_number m i = option_and_then (λ k. with_shell m i.0 k) (small_at (codes " shell ") i.1)
-
 entry_read : (m : Limits) (i k j : ℕ) (e : End) → i < 2 ^ 64 → k < 2 ^ 32 → j < 2 ^ 32 → IsEndIn m e → entry_at m (line_text (entry i k j e)) ≡ Some (entry i k j e)
 unfolding entry_at
 entry_read m i k j e p q r s =
     let end_ = codes " " ++ end_text e in
     let txn = field (codes " txn ") j ++ end_ in
     let shell = field (codes " shell ") k ++ txn in
-    ap (entry_at m) (entry_form (field (codes "entry ") i) (field (codes " shell ") k) (field (codes " txn ") j) (end_text e))
-    ∙ (ap (λ o. option_and_then (with_number m) o) (field_read (codes "entry ") i shell p (field_ends (codes "shell ") k txn refl))
-    ∙ (ap (λ o. option_and_then (λ x. with_shell m i x) o) (small_read (codes " shell ") k txn q (field_ends (codes "txn ") j end_ refl))
-    ∙ (ap (λ o. option_and_then (λ x. with_txn m i k x) o) (small_read (codes " txn ") j end_ r refl)
-    ∙ (ap (λ o. option_and_then (λ x. ended_entry m i k j x) o) (after_read (codes " ") (end_text e)) ∙ ap (λ o. option_map (λ x. entry i k j x) o) (end_read m e s)))))
+    rw (
+      entry_form (field (codes "entry ") i) (field (codes " shell ") k) (field (codes " txn ") j) (end_text e),
+      field_read (codes "entry ") i shell p (field_ends (codes "shell ") k txn refl),
+      small_read (codes " shell ") k txn q (field_ends (codes "txn ") j end_ refl),
+      small_read (codes " txn ") j end_ r refl,
+      after_read (codes " ") (end_text e),
+      end_read m e s,
+    ) refl
 
 -- retries
 
 retry_form : (a b c d : List ℕ) → (((a ++ b) ++ c) ++ codes " path ") ++ d ≡ a ++ (b ++ (c ++ (codes " path " ++ d)))
 retry_form a b c d = simp append_assoc
-
-abbrev retry_of : ℕ → ℕ → ℕ → List (List ℕ) → Line
-retry_of k j i p = retry (record { shell = k; txn = j; entry = i; path = p })
-
-abbrev pathed : Limits → ℕ → ℕ → ℕ → List ℕ → Option Line
-pathed m k j i rest = option_map (λ p. retry_of k j i p) (path_at m rest)
-
-abbrev retry_entry : Limits → ℕ → ℕ → ℕ × List ℕ → Option Line
-retry_entry m k j i = option_and_then (λ rest. pathed m k j i.0 rest) (after (codes " path ") i.1)
-
-abbrev retry_txn : Limits → ℕ → ℕ × List ℕ → Option Line
-retry_txn m k j = option_and_then (λ i. retry_entry m k j.0 i) (field_at (codes " entry ") j.1)
-
-abbrev retry_shell : Limits → ℕ × List ℕ → Option Line
-retry_shell m k = option_and_then (λ j. retry_txn m k.0 j) (small_at (codes " txn ") k.1)
 
 -- a retry whose numbers fit and whose path a reader takes
 pub record IsRetryIn (limits : Limits) (r : Retry) : Type 0 where
@@ -89,11 +65,14 @@ retry_read m r p =
     let path = codes " path " ++ quote (path_text r.path) in
     let number = field (codes " entry ") r.entry ++ path in
     let txn = field (codes " txn ") r.txn ++ number in
-    ap (retry_at m) (retry_form (field (codes "retry shell ") r.shell) (field (codes " txn ") r.txn) (field (codes " entry ") r.entry) (quote (path_text r.path)))
-    ∙ (ap (λ o. option_and_then (retry_shell m) o) (small_read (codes "retry shell ") r.shell txn p.shell (field_ends (codes "txn ") r.txn number refl))
-    ∙ (ap (λ o. option_and_then (λ x. retry_txn m r.shell x) o) (small_read (codes " txn ") r.txn number p.txn (field_ends (codes "entry ") r.entry path refl))
-    ∙ (ap (λ o. option_and_then (λ x. retry_entry m r.shell r.txn x) o) (field_read (codes " entry ") r.entry path p.entry refl)
-    ∙ (ap (λ o. option_and_then (λ x. pathed m r.shell r.txn r.entry x) o) (after_read (codes " path ") (quote (path_text r.path))) ∙ ap (λ o. option_map (λ x. retry_of r.shell r.txn r.entry x) o) (path_read m r.path p.path)))))
+    rw (
+      retry_form (field (codes "retry shell ") r.shell) (field (codes " txn ") r.txn) (field (codes " entry ") r.entry) (quote (path_text r.path)),
+      small_read (codes "retry shell ") r.shell txn p.shell (field_ends (codes "txn ") r.txn number refl),
+      small_read (codes " txn ") r.txn number p.txn (field_ends (codes "entry ") r.entry path refl),
+      field_read (codes " entry ") r.entry path p.entry refl,
+      after_read (codes " path ") (quote (path_text r.path)),
+      path_read m r.path p.path,
+    ) refl
 
 -- ---- kinds
 

@@ -1,14 +1,12 @@
 -- The parts of a line are read as they are spelled.
-use Rattle.std.proofs.Common.{◌≡◌, ℕ, ◌^◌, ◌<◌, cond, nat_lt, List, [], ◌∷◌, ◌++◌, All, Option, Some, None, codes, refl, sym, ap, subst, ◌∙◌, append_assoc, append-nil, arith, lit<}
+use Rattle.std.proofs.Common.{◌≡◌, ℕ, ◌^◌, ◌<◌, cond, nat_lt, List, [], ◌∷◌, ◌++◌, All, Some, None, codes, refl, sym, ap, subst, ◌∙◌, append_assoc, append-nil, arith, lit<}
 use Rattle.std.specs.Fmt.{decimal}
-use Rattle.std.specs.List.{flat_map}
 use Rattle.std.specs.Option.{option_map, option_and_then}
 use Rattle.std.proofs.lemmas.Bool.{lt-ltb}
 use Rattle.std.proofs.lemmas.List.Elements.{All-head, All-tail}
 use Rattle.fx_expr.specs.declared.fault.ExprFault.TheVariants as fault
-use Rattle.fx_store.specs.declared.name.PathFault.TheVariants.{TooDeep}
-use Rattle.fx_store.specs.Names.{IsName, IsPath, path_text}
-use Rattle.fx_store.proofs.PathLists.{read_path_text, name_bytes}
+use Rattle.fx_store.specs.Names.{IsPath, path_text}
+use Rattle.fx_store.proofs.PathLists.{path_bytes, read_path_text}
 use Rattle.fx_spec.specs.Refusals.{refusal_number}
 use Rattle.fx_spec.specs.declared.refusal.Refusal.{Refusal}
 use Rattle.fx_spec.specs.declared.refusal.Refusal.TheVariants as refusal
@@ -46,17 +44,9 @@ last_read words n small = ap (λ t. alone (field_at words t)) (sym (append-nil (
 
 -- ---- paths
 
-are_append : (x y : List ℕ) → All (λ b. b < 256) x → AreBytes y → AreBytes (x ++ y)
-are_append [] y p q = q
-are_append (b ∷ x) y p q = (All-head (λ b. b < 256) b x p, are_append x y (All-tail (λ b. b < 256) b x p) q)
-
-names_bytes : (path : List (List ℕ)) → All IsName path → AreBytes (flat_map (λ n. 47 ∷ n) path)
-names_bytes [] all = tt
-names_bytes (n ∷ ns) all = (lit< tt, are_append n (flat_map (λ n. 47 ∷ n) ns) (name_bytes n (All-head IsName n ns all)) (names_bytes ns (All-tail IsName n ns all)))
-
-path_bytes : (path : List (List ℕ)) → All IsName path → AreBytes (path_text path)
-path_bytes [] all = (lit< tt, tt)
-path_bytes (n ∷ ns) all = names_bytes (n ∷ ns) all
+are_bytes : (x : List ℕ) → All (λ b. b < 256) x → AreBytes x
+are_bytes [] p = tt
+are_bytes (b ∷ x) p = (All-head (λ b. b < 256) b x p, are_bytes x (All-tail (λ b. b < 256) b x p))
 
 -- a path that a reader takes
 pub record IsPathIn (limits : Limits) (path : List (List ℕ)) : Type 0 where
@@ -64,7 +54,7 @@ pub record IsPathIn (limits : Limits) (path : List (List ℕ)) : Type 0 where
   pub taken : limits.path_of (path_text path) ≡ Some path
 
 pub strict_path : (p : List (List ℕ)) → IsPath p → IsPathIn strict p
-strict_path p is = record { bytes = path_bytes p is.names; taken = ap path_or_none (read_path_text p is) }
+strict_path p is = record { bytes = are_bytes (path_text p) (path_bytes p is.names); taken = ap path_or_none (read_path_text p is) }
 
 pub path_read : (m : Limits) (p : List (List ℕ)) → IsPathIn m p → path_at m (quote (path_text p)) ≡ Some p
 unfolding path_at
@@ -115,24 +105,18 @@ space_ends : (n : ℕ) (x : List ℕ) → EndsDigits (field (codes " ") n ++ x)
 unfolding field
 space_ends n x = refl
 
-abbrev named_stop : Limits → ℕ → ℕ → List ℕ → Option End
-named_stop m c n name = option_map (λ r. end.Stopped c r) (refusal_at m n name)
-
-abbrev numbered_stop : Limits → ℕ → ℕ × List ℕ → Option End
-numbered_stop m c n = option_and_then (λ name. named_stop m c n.0 name) (after (codes " ") n.1)
-
-abbrev stop_of : Limits → ℕ × List ℕ → Option End
-stop_of m c = option_and_then (λ n. numbered_stop m c.0 n) (field_at (codes " ") c.1)
-
 stop_read : (m : Limits) (c : ℕ) (r : Refusal) → c < 2 ^ 32 → IsRefusalIn m r → stop_at m (end_text (end.Stopped c r)) ≡ Some (end.Stopped c r)
 unfolding stop_at
 stop_read m c r small is =
-    let name = refusal_text r in
+    let name = codes " " ++ refusal_text r in
     let n = refusal_number r in
-    ap (stop_at m) (stop_form (field (codes "stopped ") c) (field (codes " ") n) name)
-    ∙ (ap (λ o. option_and_then (stop_of m) o) (small_read (codes "stopped ") c (field (codes " ") n ++ (codes " " ++ name)) small (space_ends n (codes " " ++ name)))
-    ∙ (ap (λ o. option_and_then (λ k. numbered_stop m c k) o) (field_read (codes " ") n (codes " " ++ name) (number_small r) refl)
-    ∙ (ap (λ o. option_and_then (λ t. named_stop m c n t) o) (after_read (codes " ") name) ∙ ap (λ o. option_map (λ q. end.Stopped c q) o) (refusal_read m r is))))
+    rw (
+      stop_form (field (codes "stopped ") c) (field (codes " ") n) (refusal_text r),
+      small_read (codes "stopped ") c (field (codes " ") n ++ name) small (space_ends n name),
+      field_read (codes " ") n name (number_small r) refl,
+      after_read (codes " ") (refusal_text r),
+      refusal_read m r is,
+    ) refl
 
 pub end_read : (m : Limits) (e : End) → IsEndIn m e → end_at m (end_text e) ≡ Some e
 unfolding end_at field

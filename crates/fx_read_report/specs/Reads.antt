@@ -19,7 +19,7 @@ use Rattle.fx_read_report.specs.Values.{alone, value_at}
 unfoldable pub field_at : List ℕ → List ℕ → Option (ℕ × List ℕ)
 field_at words bytes = option_and_then leading_number (after words bytes)
 
--- the same for a number of 32 bits
+-- the number of 32 bits behind words, and what stands behind it
 unfoldable pub small_at : List ℕ → List ℕ → Option (ℕ × List ℕ)
 small_at words bytes = option_and_then (λ r. cond (nat_lt r.0 (2 ^ 32)) (Some r) None) (field_at words bytes)
 
