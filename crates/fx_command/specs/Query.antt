@@ -36,14 +36,13 @@ pub record HasNotPrinted (q : Query) (host host' : HostView) (sink sink' : SinkV
 -- the table: however the command ends, the tree that the host tells is as it was
 abbrev pub QueryRow : Query → HostView → HostView → SinkView → SinkView → Status → Type 0
 QueryRow q host host' sink sink' status.Done = ReadsOnly host host' × Grows sink sink' × IfSome host.told (λ t. HasPrinted q t sink.written sink'.written)
-QueryRow q host host' sink sink' status.Usage = ⊥
 QueryRow q host host' sink sink' (status.TextRefused word cause) = IsSame host host' sink sink' × q.reads.refused host word cause
 QueryRow q host host' sink sink' (status.FolderRefused cause) = IsSame host host' sink sink' × q.reads.unloaded host cause
 QueryRow q host host' sink sink' status.ReadFault = IsSame host host' sink sink' × q.reads.failed host host'
-QueryRow q host host' sink sink' status.NotEmpty = ⊥
 QueryRow q host host' sink sink' status.WriteFault = HasNotPrinted q host host' sink sink'
 QueryRow q host host' sink sink' status.NoMemory = IsSame host host' sink sink'
 QueryRow q host host' sink sink' (status.BadJournal place) = IsSame host host' sink sink' × q.reads.bad host place
+QueryRow q host host' sink sink' _ = ⊥
 
 -- a stage that only reads ends the command so, whatever the sink
 abbrev pub QueryEndsAs : Query → HostView → HostView → Status → Type 0
