@@ -11,7 +11,7 @@ use Rattle.fx_parse.specs.declared.keyword.Keyword.TheVariants as keyword
 use Rattle.fx_parse.specs.Stuck.{Stuck, Unexpected, TooNested, ◌>>=◌}
 use Rattle.fx_parse.specs.Grammars.{word, opening, closing, comma, binary_token, unary_word, bool_word, expr_tokens, expr_levels, has_names}
 use Rattle.fx_parse.specs.Reader.{expect, is_opening, is_closing, is_comma, Head, Leaf, Bracket, Before, Choice, Nothing, head_of, Middle, Binary, Glob, Neither, middle_of, middle_found, middle_at, glob_at, ReadExpr, second_at, bracket_at, before_at, choice_at, form_at, too_nested, is_nothing, read_expr}
-use Rattle.fx_parse.proofs.Machine.{at_most, scan}
+use Rattle.fx_parse.proofs.Machine.{at_most, scan, scan_from}
 use Rattle.fx_parse.proofs.Tests.{IsTest, scan_test}
 use Rattle.fx_parse.proofs.ExprMachine.{Sym, Expr, Operator, Text, Open, Close, Comma, table, head_stack, middle_stack, head_word, head_unary, head_bool, head_name, middle_binary, middle_only}
 

@@ -10,7 +10,7 @@ use Rattle.fx_parse.specs.Stuck.{Stuck, Unexpected, TooNested, ◌>>=◌}
 use Rattle.fx_parse.specs.Grammars.{word, opening, closing, comma, shape_tokens, shape_levels, shapes}
 use Rattle.fx_parse.specs.Reader.{expect, is_opening, is_closing, is_comma}
 use Rattle.fx_parse.specs.ShapeReader.{shape_of, ReadShape, pair_at, opt_at, table_at, shape_form_at, is_no_shape, shape_too_nested, read_shape}
-use Rattle.fx_parse.proofs.Machine.{at_most, scan}
+use Rattle.fx_parse.proofs.Machine.{at_most, scan, scan_from}
 use Rattle.fx_parse.proofs.Tests.{IsTest, scan_test}
 use Rattle.fx_parse.proofs.ReaderPlaces.{Follows}
 use Rattle.fx_parse.proofs.ShapeMachine.{Sym, Shape, Open, Close, Comma, table, shape_stack, shape_word, shape_fits}
