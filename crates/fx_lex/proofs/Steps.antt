@@ -67,7 +67,10 @@ module _ (text : List ℕ) (place n : ℕ) (tokens : List Spanned) (r : Reads te
       subst (λ l. Reads text (place + n) l (tokens ++ record { token = t; start = place; stop = place + n } ∷ [])) (drop-drop n place text) here
 
 -- a token that is found and pushed: the reading goes on behind it, within the text, and no more tokens were read than bytes
-pub steps_on : (text : List ℕ) (place n : ℕ) (tokens : List Spanned) (t : Token) → Reads text place (drop place text) tokens → place ≤ length text → length tokens ≤ place → (0 < n) × (n ≤ length (drop place text)) × StandsAt (take n (drop place text)) (drop n (drop place text)) t → (more : List Spanned) → more ≡ tokens ++ record { token = t; start = place; stop = place + n } ∷ [] → Reads text (place + n) (drop (place + n) text) more × (place + n ≤ length text) × (length more ≤ place + n)
+pub steps_on : (text : List ℕ) (place n : ℕ) (tokens : List Spanned) (t : Token) → Reads text place (drop place text) tokens → place ≤ length text → length tokens ≤ place
+    → (0 < n) × (n ≤ length (drop place text)) × StandsAt (take n (drop place text)) (drop n (drop place text)) t
+    → (more : List Spanned) → more ≡ tokens ++ record { token = t; start = place; stop = place + n } ∷ []
+    → Reads text (place + n) (drop (place + n) text) more × (place + n ≤ length text) × (length more ≤ place + n)
 steps_on text place n tokens t r low few here more pushed =
     let grown : length more ≡ length tokens + 1 = ap length pushed ∙ length_push tokens _ in
     (subst (λ l. Reads text (place + n) (drop (place + n) text) l) (sym pushed) (steps_token text place n tokens r here.1 t here.2), omega (arith, here.1, length-drop place text, low), omega (arith, here.0, few, grown))
