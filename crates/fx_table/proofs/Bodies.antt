@@ -1,10 +1,5 @@
 -- What is read of the lines of a text is what is read of the text.
-use Rattle.fx_table.proofs.Prelude.{◌≡◌, inl, inr, ℕ, Bool, true, false, cond, not, ◌&&◌, List, ◌++◌, Ok, Err, sym, ◌∙◌, ap, subst, append-nil, Change, Store, lines_in, ReadsBody, BodyCause, ReadsAll, LinesCause, TableLine, has_flags, lines_text, read_table, read_body, unless_lacking, lacks_flags, is_second, body_of, first_number, setting_of, read_from, AreLinesOver, IsFirstBadOf, IsFirstBadLine}
-use Rattle.fx_table.specs.declared.fault.FolderCause.TheVariants.{BadName, Strange, TooLarge, BadTable}
-use Rattle.fx_table.specs.declared.fault.LoadFault.{LoadFault}
-use Rattle.fx_table.specs.declared.fault.LoadFault.TheVariants.{Refused, ReadFault, NoMemory}
-use Rattle.fx_table.specs.declared.lines.Room.{Room}
-use Rattle.fx_table.specs.Table.{over}
+use Rattle.fx_table.proofs.Prelude.{◌≡◌, inl, inr, ℕ, Bool, true, false, cond, not, ◌&&◌, List, ◌++◌, Ok, Err, sym, ◌∙◌, ap, subst, append-nil, Change, Store, lines_in, ReadsBody, BodyCause, ReadsAll, LinesCause, TableLine, has_flags, lines_text, read_table, read_body, unless_lacking, lacks_flags, is_second, body_of, first_number, setting_of, read_from, AreLinesOver, IsFirstBadOf, IsFirstBadLine, BadName, Strange, TooLarge, BadTable, LoadFault, Refused, ReadFault, NoMemory, Room, over}
 use Rattle.fx_table.proofs.TableFronts.{stops_read}
 use Rattle.fx_table.proofs.TableLines.{lines_are_read}
 use Rattle.fx_table.proofs.Versions.{spells, stops_in, lacks_in}

@@ -1,14 +1,8 @@
 -- What the lines of a table say is set among files and directories: flags, which leave all else as it is, and links.
-use Rattle.fx_table.proofs.Prelude.{◌≡◌, ℕ, zero, suc, ◌+◌, ◌<◌, Bool, true, false, cond, T, List, [], ◌∷◌, ◌++◌, map, take, drop, length, get_or, arith, Option, Some, None, is_some, IfSome, IsTrue, All, refl, sym, ◌∙◌, ap, subst, unwrap_or, Less, eq_by_cmp, AllByRecursion, cons_option, slice_get, slice_set, IsStrictlySortedBy, keys_of, find, is_sorted, same_Some, All-nil, All-cons, All-head, All-tail, or_right, or_left, strictly_sorted, sorted_test, Node, File, Dir, Link, Change, change_at, path_cmp, path_eq_same, Store, Mark, Target, Executable, TableLine, TableLink, is_flag_mark, has_flags, is_dir, can_mark, has_place, links_among, link_in_line, flag_at, IsLine, IsLink, AreLinesOver, link_change, links_in, mark_node, line_change, mark_in, lines_in, Mapped, with_flag, with_flags, with_lines, mapped_of, IsNodeBounded, IsOfBytes, AreOfBytes, IsTreeShaped, change_of, changes_of}
-use Rattle.fx_table.specs.Table.{over}
-use Rattle.fx_table.specs.Flags.{is_flagged, flagged_at, with_exec, flag_change, links_alone}
-use Rattle.fx_table.specs.Merges.{MakeLinks, CanMerge}
+use Rattle.fx_table.proofs.Prelude.{◌≡◌, ℕ, zero, suc, ◌+◌, ◌<◌, Bool, true, false, cond, T, List, [], ◌∷◌, ◌++◌, map, take, drop, length, get_or, arith, Option, Some, None, is_some, IfSome, IsTrue, All, refl, sym, ◌∙◌, ap, subst, unwrap_or, Less, eq_by_cmp, AllByRecursion, cons_option, slice_get, slice_set, IsStrictlySortedBy, keys_of, find, is_sorted, same_Some, All-nil, All-cons, All-head, All-tail, or_right, or_left, strictly_sorted, sorted_test, Node, File, Dir, Link, Change, change_at, path_cmp, path_eq_same, Store, Mark, Target, Executable, TableLine, TableLink, is_flag_mark, has_flags, is_dir, has_place, links_among, link_in_line, flag_at, IsLine, IsLink, AreLinesOver, link_change, links_in, mark_node, line_change, mark_in, lines_in, Mapped, with_flag, with_flags, with_lines, mapped_of, IsNodeBounded, IsOfBytes, AreOfBytes, IsTreeShaped, change_of, changes_of, over, is_flagged, flagged_at, with_exec, flag_change, links_alone, MakeLinks, CanMerge, Parts}
 use Rattle.fx_table.proofs.Linking.{IsLinked, CanStand, links_made, apart_from}
 use Rattle.fx_table.proofs.Mixing.{made_links}
 use Rattle.fx_table.proofs.Shapes.{found}
-
-abbrev Paths : Type 0
-Paths = List (List ℕ)
 
 -- ---- which files are executable
 
@@ -16,7 +10,7 @@ marked : (mark : Mark) → is_flagged (Some (mark_node mark)) ≡ is_flag_mark m
 marked (Target text) = refl
 marked Executable = refl
 
-flags_found : (lines : List TableLine) (q : Paths) → flagged_at (map line_change lines) q ≡ flag_at lines q
+flags_found : (lines : List TableLine) (q : Parts) → flagged_at (map line_change lines) q ≡ flag_at lines q
 flags_found [] q = refl
 flags_found (l ∷ lines) q = by (eq_by_cmp path_cmp q l.path) (flags_found lines q)
   where
@@ -25,7 +19,7 @@ flags_found (l ∷ lines) q = by (eq_by_cmp path_cmp q l.path) (flags_found line
     by false rest = rest
 
 module _ (lines : List Change) (made : lines ≡ map line_change (lines_in lines)) where
-  flagged_is : (q : Paths) → flagged_at lines q ≡ flag_at (lines_in lines) q
+  flagged_is : (q : Parts) → flagged_at lines q ≡ flag_at (lines_in lines) q
   flagged_is q = ap (λ cs. flagged_at cs q) made ∙ flags_found (lines_in lines) q
 
   flag_set : (e : Mapped) → flag_change lines (change_of e) ≡ change_of (with_flag (lines_in lines) e)
@@ -46,7 +40,7 @@ alone_is : (lines : List TableLine) → links_alone (map line_change lines) ≡ 
 alone_is [] = refl
 alone_is (l ∷ lines) = by l.path l.mark (alone_is lines)
   where
-    by : (p : Paths) (mark : Mark) → links_alone (map line_change lines) ≡ map link_change (links_among lines) → links_alone (record { path = p; node = Some (mark_node mark) } ∷ map line_change lines) ≡ map link_change (cons_option (link_in_line p mark) (links_among lines))
+    by : (p : Parts) (mark : Mark) → links_alone (map line_change lines) ≡ map link_change (links_among lines) → links_alone (record { path = p; node = Some (mark_node mark) } ∷ map line_change lines) ≡ map link_change (cons_option (link_in_line p mark) (links_among lines))
     by p (Target text) rest = ap (λ cs. record { path = p; node = Some (Link text) } ∷ cs) rest
     by p Executable rest = rest
 
@@ -63,23 +57,15 @@ module _ (lines links : List Change) (made : lines ≡ map line_change (lines_in
 
 -- ---- files with their flags
 
-pub find_flags : (es : List Mapped) (lines : List TableLine) (q : Paths) → found (with_flags es lines) q ≡ with_exec (flag_at lines q) (found es q)
+pub find_flags : (es : List Mapped) (lines : List TableLine) (q : Parts) → found (with_flags es lines) q ≡ with_exec (flag_at lines q) (found es q)
 find_flags [] lines q = refl
 find_flags ((p, File bytes exec) ∷ es) lines q = by (eq_by_cmp path_cmp q p) refl (find_flags es lines q)
   where
     by : (b : Bool) → eq_by_cmp path_cmp q p ≡ b → found (with_flags es lines) q ≡ with_exec (flag_at lines q) (found es q) → cond b (Some (File bytes (flag_at lines p))) (found (with_flags es lines) q) ≡ with_exec (flag_at lines q) (cond b (Some (File bytes exec)) (found es q))
     by true same rest = ap (λ x. Some (File bytes (flag_at lines x))) (sym (path_eq_same q p same))
     by false same rest = rest
-find_flags ((p, Dir names) ∷ es) lines q = by (eq_by_cmp path_cmp q p) (find_flags es lines q)
-  where
-    by : (b : Bool) → found (with_flags es lines) q ≡ with_exec (flag_at lines q) (found es q) → cond b (Some (Dir names)) (found (with_flags es lines) q) ≡ with_exec (flag_at lines q) (cond b (Some (Dir names)) (found es q))
-    by true rest = refl
-    by false rest = rest
-find_flags ((p, Link text) ∷ es) lines q = by (eq_by_cmp path_cmp q p) (find_flags es lines q)
-  where
-    by : (b : Bool) → found (with_flags es lines) q ≡ with_exec (flag_at lines q) (found es q) → cond b (Some (Link text)) (found (with_flags es lines) q) ≡ with_exec (flag_at lines q) (cond b (Some (Link text)) (found es q))
-    by true rest = refl
-    by false rest = rest
+find_flags ((p, Dir names) ∷ es) lines q = elim (eq_by_cmp path_cmp q p) as (λ b. cond b (Some (Dir names)) (found (with_flags es lines) q) ≡ with_exec (flag_at lines q) (cond b (Some (Dir names)) (found es q))) [ true ↦ refl | false ↦ find_flags es lines q ]
+find_flags ((p, Link text) ∷ es) lines q = elim (eq_by_cmp path_cmp q p) as (λ b. cond b (Some (Link text)) (found (with_flags es lines) q) ≡ with_exec (flag_at lines q) (cond b (Some (Link text)) (found es q))) [ true ↦ refl | false ↦ find_flags es lines q ]
 
 pub keys_flags : (es : List Mapped) (lines : List TableLine) → keys_of (with_flags es lines) ≡ keys_of es
 keys_flags [] lines = refl
@@ -102,23 +88,17 @@ exec_some flag (Some (File bytes exec)) = refl
 exec_some flag (Some (Dir names)) = refl
 exec_some flag (Some (Link text)) = refl
 
-exec_leaf : (flag : Bool) (o : Option Node) → IfSome o IsNodeBounded → IfSome (with_exec flag o) IsNodeBounded
-exec_leaf flag None is = tt
-exec_leaf flag (Some (File bytes exec)) is = is
-exec_leaf flag (Some (Dir names)) is = is
-exec_leaf flag (Some (Link text)) is = is
-
-exec_bytes : (flag : Bool) (o : Option Node) → IfSome o IsOfBytes → IfSome (with_exec flag o) IsOfBytes
-exec_bytes flag None is = tt
-exec_bytes flag (Some (File bytes exec)) is = is
-exec_bytes flag (Some (Dir names)) is = is
-exec_bytes flag (Some (Link text)) is = is
+exec_keeps : (P : Node → Type 0) → ((bytes : List ℕ) (was exec : Bool) → P (File bytes was) → P (File bytes exec)) → (flag : Bool) (o : Option Node) → IfSome o P → IfSome (with_exec flag o) P
+exec_keeps P keeps flag None is = tt
+exec_keeps P keeps flag (Some (File bytes exec)) is = keeps bytes exec flag is
+exec_keeps P keeps flag (Some (Dir names)) is = is
+exec_keeps P keeps flag (Some (Link text)) is = is
 
 module _ (es : List Mapped) (lines : List TableLine) where
-  dirs_flags : (q : Paths) → is_dir (found (with_flags es lines) q) ≡ is_dir (found es q)
+  dirs_flags : (q : Parts) → is_dir (found (with_flags es lines) q) ≡ is_dir (found es q)
   dirs_flags q = ap is_dir (find_flags es lines q) ∙ exec_dir (flag_at lines q) (found es q)
 
-  some_flags : (q : Paths) → is_some (found (with_flags es lines) q) ≡ is_some (found es q)
+  some_flags : (q : Parts) → is_some (found (with_flags es lines) q) ≡ is_some (found es q)
   some_flags q = ap is_some (find_flags es lines q) ∙ exec_some (flag_at lines q) (found es q)
 
   shape_flags : IsTreeShaped (found es) → IsTreeShaped (found (with_flags es lines))
@@ -126,11 +106,11 @@ module _ (es : List Mapped) (lines : List TableLine) where
     root = dirs_flags [] ∙ shape.root;
     above = λ path name some. dirs_flags path ∙ shape.above path name (sym (some_flags (path ++ name ∷ [])) ∙ some);
     paths = λ path some. shape.paths path (sym (some_flags path) ∙ some);
-    leaves = λ path. subst (λ o. IfSome o IsNodeBounded) (sym (find_flags es lines path)) (exec_leaf (flag_at lines path) (found es path) (shape.leaves path));
+    leaves = λ path. subst (λ o. IfSome o IsNodeBounded) (sym (find_flags es lines path)) (exec_keeps IsNodeBounded (λ bytes was exec is. is) (flag_at lines path) (found es path) (shape.leaves path));
   }
 
   pub bytes_flags : AreOfBytes (found es) → AreOfBytes (found (with_flags es lines))
-  bytes_flags held q = subst (λ o. IfSome o IsOfBytes) (sym (find_flags es lines q)) (exec_bytes (flag_at lines q) (found es q) (held q))
+  bytes_flags held q = subst (λ o. IfSome o IsOfBytes) (sym (find_flags es lines q)) (exec_keeps IsOfBytes (λ bytes was exec is. is) (flag_at lines q) (found es q) (held q))
 
   pub linked_flags : (S : Store) → IsLinked S es → IsLinked S (with_flags es lines)
   linked_flags S linked = record {
@@ -148,36 +128,34 @@ module _ (es : List Mapped) (lines : List TableLine) where
 
 -- ---- the links of lines that have their places
 
-abbrev paths_of : List TableLine → List Paths
+abbrev paths_of : List TableLine → List Parts
 paths_of lines = map (λ (l : TableLine). l.path) lines
 
-abbrev link_paths : List TableLink → List Paths
+abbrev link_paths : List TableLink → List Parts
 link_paths links = map (λ (l : TableLink). l.path) links
 
 abbrev HasPlace : Store → Bool → TableLine → Type 0
 HasPlace S flags l = IsTrue (has_place (over S flags) l)
 
-links_valid : (lines : List TableLine) → All IsLine lines → All IsLink (links_among lines)
-links_valid [] all = All-nil IsLink
-links_valid (l ∷ lines) all = by l.path l.mark (All-head IsLine l lines all) (links_valid lines (All-tail IsLine l lines all))
+links_all : (P : TableLine → Type 0) (Q : TableLink → Type 0) → ((p : Parts) (text : List ℕ) → P (record { path = p; mark = Target text }) → Q (record { path = p; text = text })) → (lines : List TableLine) → All P lines → All Q (links_among lines)
+links_all P Q f [] all = All-nil Q
+links_all P Q f (l ∷ lines) all = by l.path l.mark (All-head P l lines all) (links_all P Q f lines (All-tail P l lines all))
   where
-    by : (p : Paths) (mark : Mark) → IsLine (record { path = p; mark = mark }) → All IsLink (links_among lines) → All IsLink (cons_option (link_in_line p mark) (links_among lines))
-    by p (Target text) valid rest = All-cons IsLink (record { path = p; text = text }) (links_among lines) (record { path = valid.path; text = valid.mark }) rest
-    by p Executable valid rest = rest
+    by : (p : Parts) (mark : Mark) → P (record { path = p; mark = mark }) → All Q (links_among lines) → All Q (cons_option (link_in_line p mark) (links_among lines))
+    by p (Target text) here rest = All-cons Q (record { path = p; text = text }) (links_among lines) (f p text here) rest
+    by p Executable here rest = rest
+
+links_valid : (lines : List TableLine) → All IsLine lines → All IsLink (links_among lines)
+links_valid lines all = links_all IsLine IsLink (λ p text valid. record { path = valid.path; text = valid.mark }) lines all
 
 links_stand : (S : Store) (flags : Bool) (lines : List TableLine) → All (HasPlace S flags) lines → All (CanStand S) (links_among lines)
-links_stand S flags [] all = All-nil (CanStand S)
-links_stand S flags (l ∷ lines) all = by l.path l.mark (All-head (HasPlace S flags) l lines all) (links_stand S flags lines (All-tail (HasPlace S flags) l lines all))
-  where
-    by : (p : Paths) (mark : Mark) → can_mark (over S flags) p mark ≡ true → All (CanStand S) (links_among lines) → All (CanStand S) (cons_option (link_in_line p mark) (links_among lines))
-    by p (Target text) can rest = All-cons (CanStand S) (record { path = p; text = text }) (links_among lines) can rest
-    by p Executable can rest = rest
+links_stand S flags lines all = links_all (HasPlace S flags) (CanStand S) (λ p text can. can) lines all
 
-links_above : (P : Paths → Type 0) (lines : List TableLine) → AllByRecursion P (paths_of lines) → AllByRecursion P (link_paths (links_among lines))
+links_above : (P : Parts → Type 0) (lines : List TableLine) → AllByRecursion P (paths_of lines) → AllByRecursion P (link_paths (links_among lines))
 links_above P [] all = tt
 links_above P (l ∷ lines) all = by l.path l.mark all.0 (links_above P lines all.1)
   where
-    by : (p : Paths) (mark : Mark) → P p → AllByRecursion P (link_paths (links_among lines)) → AllByRecursion P (link_paths (cons_option (link_in_line p mark) (links_among lines)))
+    by : (p : Parts) (mark : Mark) → P p → AllByRecursion P (link_paths (links_among lines)) → AllByRecursion P (link_paths (cons_option (link_in_line p mark) (links_among lines)))
     by p (Target text) here rest = (here, rest)
     by p Executable here rest = rest
 
@@ -186,7 +164,7 @@ unfolding IsStrictlySortedBy
 links_ascend [] up = tt
 links_ascend (l ∷ lines) up = by l.path l.mark up.0 (links_ascend lines up.1)
   where
-    by : (p : Paths) (mark : Mark) → AllByRecursion (λ q. path_cmp p q ≡ Less) (paths_of lines) → IsStrictlySortedBy path_cmp (link_paths (links_among lines)) → IsStrictlySortedBy path_cmp (link_paths (cons_option (link_in_line p mark) (links_among lines)))
+    by : (p : Parts) (mark : Mark) → AllByRecursion (λ q. path_cmp p q ≡ Less) (paths_of lines) → IsStrictlySortedBy path_cmp (link_paths (links_among lines)) → IsStrictlySortedBy path_cmp (link_paths (cons_option (link_in_line p mark) (links_among lines)))
     by p (Target text) above rest = (links_above (λ q. path_cmp p q ≡ Less) lines above, rest)
     by p Executable above rest = rest
 
@@ -194,7 +172,7 @@ module _ (S : Store) (flags : Bool) (lines : List TableLine) (table : AreLinesOv
   pub lines_made : (es : List Mapped) → IsLinked S es → IsLinked S (with_lines es lines)
   lines_made es linked = links_made S (with_flags es lines) (links_among lines) (links_valid lines table.valid) (links_stand S flags lines table.stand) (linked_flags es lines S linked)
 
-  pub lines_merge : (es : List Mapped) → ((q : Paths) → S q ≡ found es q) → CanMerge es (links_among lines)
+  pub lines_merge : (es : List Mapped) → ((q : Parts) → S q ≡ found es q) → CanMerge es (links_among lines)
   unfolding IsStrictlySortedBy
   lines_merge es same = record { apart = apart_from S es (links_among lines) same (links_stand S flags lines table.stand); ascending = links_ascend lines table.ascending.1 }
 

@@ -1,7 +1,5 @@
 -- A line of the table says something where its texts can be read.
-use Rattle.fx_table.proofs.Prelude.{◌≡◌, List, ℕ, Option, None, Some, Result, Ok, Err, refl, sym, ap, linked_line, link_of, flagged, flag_of, result_ok, read_of, link_by, flag_by}
-use Rattle.fx_store.specs.declared.name.PathFault.{PathFault}
-use Rattle.fx_store.specs.Faults.{read_path, read_link}
+use Rattle.fx_table.proofs.Prelude.{◌≡◌, List, ℕ, Option, None, Some, Result, Ok, Err, refl, sym, ap, linked_line, link_of, flagged, flag_of, result_ok, read_of, link_by, flag_by, PathFault, read_path, read_link}
 
 -- what was read was read from bytes
 pub read_from_bytes : {A : Type 0} (read : List ℕ → Result A PathFault) (o : Option (List ℕ)) (a : A) → read_of read o ≡ Some a → (bytes : List ℕ) × (o ≡ Some bytes) × (read bytes ≡ Ok a)

@@ -1,12 +1,5 @@
 -- The lines of a table, read one after another.
-use Rattle.fx_table.proofs.Prelude.{◌≡◌, ℕ, suc, ◌+◌, ◌-◌, ◌<◌, ◌≤◌, ◌==◌, Bool, true, false, not, cond, ◌||◌, List, [], ◌∷◌, ◌++◌, map, length, take, drop, Some, None, refl, sym, ◌∙◌, ap, subst, arith, append_assoc, append-nil, length-append, length-take, nat_lt, bytes_eq, codes, Less, AllByRecursion, AllWithin, HoldsAt, slice_split, IsStrictlySortedBy, not-true, not-false, eqb-true, eq-eqb, nat_tests, map-append, get_or-take, same_Some, parts_at, all_push, all_last, Change, changed_paths, path_cmp, root_first, Mark, Target, Executable, TableLine, TableLink, IsLine, Setting, AreLinesOver, line_of, read_line, read_parts, link_of, flag_of, is_space, is_feed, links_among, unspelled, read_of, link_by, flag_by, mark_node, line_change, mark_in, line_in, lines_in, AreLines, IsCut, CanFollow, link_bytes, is_over_by, as_line, TakesRoom, IsNextLine, ReadsNext, IsStopped, StopsNext, ReadsBody, BodyCause}
-use Rattle.std.proofs.lemmas.List.Sums.{sum_by-cons}
-use Rattle.std.proofs.lemmas.List.Splits.{slice_split_at, length-slice_split}
-use Rattle.fx_table.specs.declared.fault.FolderCause.TheVariants.{BadName, Strange, TooLarge, BadTable}
-use Rattle.fx_table.specs.declared.fault.LoadFault.{LoadFault}
-use Rattle.fx_table.specs.declared.fault.LoadFault.TheVariants.{Refused, ReadFault, NoMemory}
-use Rattle.fx_table.specs.declared.lines.Room.{Room}
-use Rattle.fx_store.specs.Faults.{read_path, read_link}
+use Rattle.fx_table.proofs.Prelude.{◌≡◌, ℕ, suc, ◌+◌, ◌-◌, ◌<◌, ◌≤◌, ◌==◌, Bool, true, false, not, cond, ◌||◌, List, [], ◌∷◌, ◌++◌, map, length, take, drop, Some, None, refl, sym, ◌∙◌, ap, subst, arith, append_assoc, append-nil, length-append, length-take, nat_lt, bytes_eq, codes, Less, AllByRecursion, AllWithin, HoldsAt, slice_split, IsStrictlySortedBy, not-true, not-false, eqb-true, eq-eqb, nat_tests, map-append, get_or-take, same_Some, parts_at, all_push, all_last, Change, changed_paths, path_cmp, root_first, Mark, Target, Executable, TableLine, TableLink, IsLine, Setting, AreLinesOver, line_of, read_line, read_parts, link_of, flag_of, is_space, is_feed, links_among, unspelled, read_of, link_by, flag_by, mark_node, line_change, mark_in, line_in, lines_in, AreLines, IsCut, CanFollow, link_bytes, is_over_by, as_line, TakesRoom, IsNextLine, ReadsNext, IsStopped, StopsNext, ReadsBody, BodyCause, sum_by-cons, slice_split_at, length-slice_split, BadName, Strange, TooLarge, BadTable, LoadFault, Refused, ReadFault, NoMemory, Room, read_path, read_link}
 use Rattle.fx_table.proofs.Gives.{link_gives, flag_gives}
 use Rattle.fx_table.proofs.TableLines.{line_is, paths_of, IsNext, table_more, last_next, IsAt, at_start, at_more, at_end, bad_at, misread}
 

@@ -1,22 +1,17 @@
 -- Links that are a table over files and directories are set among them, and the shape of a filestore stays.
-use Rattle.fx_table.proofs.Prelude.{◌≡◌, inl, inr, ℕ, Bool, true, false, cond, ◌&&◌, T, List, [], ◌∷◌, ◌++◌, Option, Some, None, is_some, is_none, IsSome, IfSome, IsTrue, All, refl, sym, ◌∙◌, ap, subst, eq_by_cmp, AllByRecursion, put, find, is_sorted, is_sorted-put, find-put, cases_Bool, false≢true, All-head, All-tail, above_pushed, Node, Link, path_cmp, IsPath, path_total, path_eq_same, Store, TableLink, IsLink, is_dir, can_stand, Mapped, with_links}
-use Rattle.fx_base.proofs.Booleans.{second_true, first_true}
-use Rattle.fx_store.specs.Resolve.{parent}
+use Rattle.fx_table.proofs.Prelude.{◌≡◌, inl, inr, ℕ, Bool, true, false, cond, ◌&&◌, T, List, [], ◌∷◌, ◌++◌, Option, Some, None, is_some, is_none, IsSome, IfSome, IsTrue, All, refl, sym, ◌∙◌, ap, subst, eq_by_cmp, AllByRecursion, put, find, is_sorted, is_sorted-put, find-put, cases_Bool, false≢true, All-head, All-tail, above_pushed, Node, Link, path_cmp, IsPath, path_total, path_eq_same, Store, TableLink, IsLink, is_dir, can_stand, Mapped, with_links, second_true, first_true, parent, Parts}
 use Rattle.fx_table.proofs.Shapes.{found, IsTreeShaped, IsNodeBounded}
-
-abbrev Paths : Type 0
-Paths = List (List ℕ)
 
 -- one more link
 abbrev pub linked_at : Store → TableLink → Store
 linked_at S link q = cond (eq_by_cmp path_cmp q link.path) (Some (Link link.text)) (S q)
 
-pub find_linked : (es : List Mapped) (link : TableLink) (q : Paths) → found (put path_cmp link.path (Link link.text) es) q ≡ linked_at (found es) link q
+pub find_linked : (es : List Mapped) (link : TableLink) (q : Parts) → found (put path_cmp link.path (Link link.text) es) q ≡ linked_at (found es) link q
 find_linked es link q = find-put path_cmp path_total q link.path (Link link.text) es
 
 -- a link that can be made over a filestore of files and directories, whose directories are those of this one
 record CanLink (S now : Store) (link : TableLink) : Type 0 where
-  dirs : (q : Paths) → is_dir (now q) ≡ is_dir (S q)
+  dirs : (q : Parts) → is_dir (now q) ≡ is_dir (S q)
   within : IsLink link
   stands : can_stand S link.path ≡ true
 
@@ -28,7 +23,7 @@ module _ (S now : Store) (link : TableLink) (can : CanLink S now link) where
   is_free : is_dir (S link.path) ≡ false
   is_free = no_dir (S link.path) (second_true (is_dir (S (parent link.path))) (is_none (S link.path)) can.stands)
 
-  dirs_stay : (q : Paths) → is_dir (linked_at now link q) ≡ is_dir (S q)
+  dirs_stay : (q : Parts) → is_dir (linked_at now link q) ≡ is_dir (S q)
   dirs_stay q = elim (cases_Bool (eq_by_cmp path_cmp q link.path)) [
     | inl same ↦
         ap (λ b. is_dir (cond b (Some (Link link.text)) (now q))) same
@@ -36,10 +31,10 @@ module _ (S now : Store) (link : TableLink) (can : CanLink S now link) where
     | inr other ↦ ap (λ b. is_dir (cond b (Some (Link link.text)) (now q))) other ∙ can.dirs q
   ]
 
-  dir_stays : (q : Paths) → is_dir (now q) ≡ true → is_dir (linked_at now link q) ≡ true
+  dir_stays : (q : Parts) → is_dir (now q) ≡ true → is_dir (linked_at now link q) ≡ true
   dir_stays q is = dirs_stay q ∙ (sym (can.dirs q) ∙ is)
 
-  above_linked : IsTreeShaped now → (path : Paths) (name : List ℕ) → is_some (linked_at now link (path ++ name ∷ [])) ≡ true → is_dir (linked_at now link path) ≡ true
+  above_linked : IsTreeShaped now → (path : Parts) (name : List ℕ) → is_some (linked_at now link (path ++ name ∷ [])) ≡ true → is_dir (linked_at now link path) ≡ true
   above_linked shape path name some = dir_stays path (elim (cases_Bool (eq_by_cmp path_cmp (path ++ name ∷ []) link.path)) [
     | inl same ↦
         let at : path ++ name ∷ [] ≡ link.path = path_eq_same (path ++ name ∷ []) link.path same in
@@ -48,13 +43,13 @@ module _ (S now : Store) (link : TableLink) (can : CanLink S now link) where
     | inr other ↦ shape.above path name (sym (ap (λ b. is_some (cond b (Some (Link link.text)) (now (path ++ name ∷ [])))) other) ∙ some)
   ])
 
-  paths_linked : IsTreeShaped now → (path : Paths) → IsSome (linked_at now link path) → IsPath path
+  paths_linked : IsTreeShaped now → (path : Parts) → IsSome (linked_at now link path) → IsPath path
   paths_linked shape path some = elim (cases_Bool (eq_by_cmp path_cmp path link.path)) [
     | inl same ↦ subst IsPath (sym (path_eq_same path link.path same)) can.within.path
     | inr other ↦ shape.paths path (sym (ap (λ b. is_some (cond b (Some (Link link.text)) (now path))) other) ∙ some)
   ]
 
-  leaf_linked : IsTreeShaped now → (path : Paths) → IfSome (linked_at now link path) IsNodeBounded
+  leaf_linked : IsTreeShaped now → (path : Parts) → IfSome (linked_at now link path) IsNodeBounded
   leaf_linked shape path = either (eq_by_cmp path_cmp path link.path)
     where
       either : (b : Bool) → IfSome (cond b (Some (Link link.text)) (now path)) IsNodeBounded
@@ -73,7 +68,7 @@ module _ (S now : Store) (link : TableLink) (can : CanLink S now link) where
 pub record IsLinked (S : Store) (es : List Mapped) : Type 0 where
   pub sorted : T (is_sorted path_cmp es)
   pub shape : IsTreeShaped (found es)
-  pub dirs : (q : Paths) → is_dir (found es q) ≡ is_dir (S q)
+  pub dirs : (q : Parts) → is_dir (found es q) ≡ is_dir (S q)
 
 abbrev pub CanStand : Store → TableLink → Type 0
 CanStand S l = IsTrue (can_stand S l.path)
@@ -99,6 +94,6 @@ free_of (Some node) p e = absurd (by (is_dir p) e)
     by true e = cc
     by false e = cc
 
-pub apart_from : (S : Store) (fs : List Mapped) (ls : List TableLink) → ((q : Paths) → S q ≡ found fs q) → All (CanStand S) ls → AllByRecursion (λ (l : TableLink). find path_cmp l.path fs ≡ None) ls
+pub apart_from : (S : Store) (fs : List Mapped) (ls : List TableLink) → ((q : Parts) → S q ≡ found fs q) → All (CanStand S) ls → AllByRecursion (λ (l : TableLink). find path_cmp l.path fs ≡ None) ls
 apart_from S fs [] same all = tt
 apart_from S fs (l ∷ ls) same all = (sym (same l.path) ∙ free_of (S l.path) _ (All-head (CanStand S) l ls all), apart_from S fs ls same (All-tail (CanStand S) l ls all))

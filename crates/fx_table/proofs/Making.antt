@@ -1,13 +1,8 @@
 -- The filestore that lists what was found.
-use Rattle.fx_table.proofs.Prelude.{◌≡◌, Bool, true, false, cond, List, [], ◌∷◌, map, Option, Some, None, Result, Ok, Err, IfOk, option_map, refl, sym, ◌∙◌, ap, subst, unwrap_or, eq_by_cmp, IsStrictlySortedBy, keys_of, get, from_entries, get-from_entries, false≢true, Parts, Node, File, Dir, Link, Change, path_cmp, path_total, IsChanges, changed_paths, change_at, IsWhole, over_nodes, get-over_nodes, same_nodes, IsWhole-same, Mapped, with_names, listed, mapped_of, changes_of, AreShaped, HaveNameSets, is_dir}
+use Rattle.fx_table.proofs.Prelude.{◌≡◌, Bool, true, false, cond, List, [], ◌∷◌, Option, Some, None, Result, Ok, Err, IfOk, option_map, refl, sym, ◌∙◌, ap, subst, unwrap_or, eq_by_cmp, IsStrictlySortedBy, keys_of, get, from_entries, get-from_entries, false≢true, Parts, Node, File, Dir, Link, Change, path_cmp, path_total, IsChanges, changed_paths, change_at, IsWhole, over_nodes, get-over_nodes, same_nodes, IsWhole-same, Mapped, listed, mapped_of, changes_of, AreShaped, HaveNameSets, is_dir, Filestore, root_only, over-change_at, bare, get-root_only}
 use Rattle.fx_base.specs.declared.NoMemory.{NoMemory}
-use Rattle.fx_store.specs.declared.filestore.Filestore.{Filestore}
-use Rattle.fx_store.specs.Filestore.{root_only}
 use Rattle.fx_store.specs.Whole.{over}
-use Rattle.fx_store.proofs.Overlays.{over-change_at}
-use Rattle.fx_store.proofs.WholeStores.{bare, get-root_only}
-use Rattle.fx_table.proofs.Shapes.{found, listed_whole, find_listed, relisted, is_set}
-use Rattle.fx_table.proofs.Naming.{same_key}
+use Rattle.fx_table.proofs.Shapes.{found, listed_whole, find_listed, keys_with, relisted, is_set}
 
 pub paths_of : (es : List Mapped) → changed_paths (changes_of es) ≡ keys_of es
 paths_of [] = refl
@@ -20,10 +15,6 @@ set_at (e ∷ es) q = by (eq_by_cmp path_cmp q e.0) (set_at es q)
     by : (b : Bool) → change_at (changes_of es) q ≡ option_map Some (found es q) → cond b (Some (Some e.1)) (change_at (changes_of es) q) ≡ option_map Some (cond b (Some e.1) (found es q))
     by true rest = refl
     by false rest = rest
-
-pub keys_with : (es fs : List Mapped) → keys_of (map (with_names es) fs) ≡ keys_of fs
-keys_with es [] = refl
-keys_with es (e ∷ fs) = ap (λ l. (with_names es e).0 ∷ l) (keys_with es fs) ∙ ap (λ k. k ∷ keys_of fs) (same_key es e)
 
 module _ (es : List Mapped) (root : is_dir (found es []) ≡ true) (up : IsStrictlySortedBy path_cmp (keys_of es)) where
   ascend : IsChanges (changes_of es)

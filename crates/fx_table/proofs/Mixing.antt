@@ -1,13 +1,7 @@
 -- Links are set among files and directories, one path after another.
-use Rattle.fx_table.proofs.Prelude.{◌≡◌, ℕ, Bool, true, false, cond, List, [], ◌∷◌, ◌++◌, map, reverse, length, Some, None, refl, sym, ◌∙◌, ap, subst, append_assoc, append-nil, arith, Less, Equal, Greater, is_eq, is_lt, eq_by_cmp, ordering_reverse, AllByRecursion, IsStrictlySortedBy, find, put, by_order, false≢true, map-append, reverse-append, all_front, all_end, all_both, greater_from_less, Link, Change, path_cmp, path_total, Mapped, with_links, link_change, link_in, links_in, mapped_of, node_or_dir, change_of, changes_of, TableLink}
-use Rattle.std.specs.declared.cmp.Ordering.{Ordering}
-use Rattle.fx_base.proofs.Orders.{is_less}
-use Rattle.fx_table.specs.Merges.{pending, MakesLink, MakeLinks, CanMerge, MovesLinks, StopsAt, MovesAll}
+use Rattle.fx_table.proofs.Prelude.{◌≡◌, ℕ, Bool, true, false, cond, List, [], ◌∷◌, ◌++◌, map, reverse, length, Some, None, refl, sym, ◌∙◌, ap, subst, append_assoc, append-nil, arith, Less, Equal, Greater, is_eq, is_lt, eq_by_cmp, ordering_reverse, AllByRecursion, IsStrictlySortedBy, find, put, by_order, false≢true, map-append, reverse-append, all_front, all_end, all_both, greater_from_less, Link, Change, path_cmp, path_total, Mapped, with_links, link_change, link_in, links_in, mapped_of, node_or_dir, change_of, changes_of, TableLink, Ordering, is_less, pending, MakesLink, MakeLinks, CanMerge, MovesLinks, StopsAt, MovesAll, Parts}
 
-abbrev Paths : Type 0
-Paths = List (List ℕ)
-
-abbrev AllAbove : Paths → List TableLink → Type 0
+abbrev AllAbove : Parts → List TableLink → Type 0
 AllAbove p ls = AllByRecursion (λ (l : TableLink). path_cmp p l.path ≡ Less) ls
 
 abbrev entry : TableLink → Mapped
@@ -64,11 +58,11 @@ made_reversed cs new is made = subst MakeLinks (sym is) (go cs made)
     go [] made = tt
     go (c ∷ cs) made = subst MakeLinks (sym (reverse-append (c ∷ []) cs)) (all_both MakesLink (reverse cs) (c ∷ []) (go cs made.1) (made.0, tt))
 
-pub moves_none : (rest : List Change) (path : Paths) (all : List Change) → MakeLinks rest → MovesLinks rest rest path all all
+pub moves_none : (rest : List Change) (path : Parts) (all : List Change) → MakeLinks rest → MovesLinks rest rest path all all
 moves_none rest path all made = record { taken = []; pend = refl; moved = sym (append-nil all); before = tt; made = made }
 
 -- one link more is moved
-pub moves_more : (old now new : List Change) (path : Paths) (all mid end : List Change) (c : Change) → MovesLinks old now path all mid → now ≡ new ++ c ∷ [] → path_cmp c.path path ≡ Less → end ≡ mid ++ c ∷ [] → MovesLinks old new path all end
+pub moves_more : (old now new : List Change) (path : Parts) (all mid end : List Change) (c : Change) → MovesLinks old now path all mid → now ≡ new ++ c ∷ [] → path_cmp c.path path ≡ Less → end ≡ mid ++ c ∷ [] → MovesLinks old new path all end
 moves_more old now new path all mid end c moves last less more =
     let made = subst MakeLinks last moves.made in
     record {
@@ -86,7 +80,7 @@ pub less_is : (o : Ordering) (b : Bool) → b ≡ is_lt o → b ≡ true → o �
 less_is o b is holds = is_less o (sym is ∙ holds)
 
 -- the next one is not before the path
-pub moves_stop : (old now new kept : List Change) (path : Paths) (all mid : List Change) (c : Change) (o : Ordering) (b : Bool) → MovesLinks old now path all mid → now ≡ new ++ c ∷ [] → kept ≡ new ++ c ∷ [] → o ≡ path_cmp c.path path → b ≡ is_lt o → b ≡ false → MovesAll old kept path all mid
+pub moves_stop : (old now new kept : List Change) (path : Parts) (all mid : List Change) (c : Change) (o : Ordering) (b : Bool) → MovesLinks old now path all mid → now ≡ new ++ c ∷ [] → kept ≡ new ++ c ∷ [] → o ≡ path_cmp c.path path → b ≡ is_lt o → b ≡ false → MovesAll old kept path all mid
 moves_stop old now new kept path all mid c o b moves last back is tests fails =
     let same : now ≡ kept = last ∙ sym back in
     record {
@@ -94,7 +88,7 @@ moves_stop old now new kept path all mid c o b moves last back is tests fails =
       stops = subst (λ l. StopsAt path l) (sym (ap pending back ∙ pending_push new c)) (λ less. not_less o b tests fails (is ∙ less));
     }
 
-pub moves_end : (old now left : List Change) (path : Paths) (all mid : List Change) → MovesLinks old now path all mid → now ≡ left ++ [] → length left ≡ 0 → MovesAll old left path all mid
+pub moves_end : (old now left : List Change) (path : Parts) (all mid : List Change) → MovesLinks old now path all mid → now ≡ left ++ [] → length left ≡ 0 → MovesAll old left path all mid
 moves_end old now [] path all mid moves is none = record { moves = subst (λ l. MovesLinks old l path all mid) is moves; stops = tt }
 moves_end old now (c ∷ left) path all mid moves is none = absurd (omega (arith, none))
 
@@ -136,10 +130,10 @@ apart_tail e es (l ∷ ls) apart = (by (eq_by_cmp path_cmp l.path e.0) apart.0, 
 apart_head : (l : TableLink) (e : Mapped) (es : List Mapped) → find path_cmp l.path (e ∷ es) ≡ None → path_cmp l.path e.0 ≡ Equal → ⊥
 apart_head l e es none tied = let wrong : Some e.1 ≡ None = ap (λ o. cond (is_eq o) (Some e.1) (find path_cmp l.path es)) (sym tied) ∙ none in cc
 
-greater_is : (p q : Paths) → path_cmp p q ≡ Greater → path_cmp q p ≡ Less
+greater_is : (p q : Parts) → path_cmp p q ≡ Greater → path_cmp q p ≡ Less
 greater_is p q e = path_total.antisymm q p ∙ ap ordering_reverse e
 
-above_all : (p : Paths) (l : TableLink) (ls : List TableLink) → path_cmp p l.path ≡ Less → AllAbove l.path ls → AllAbove p ls
+above_all : (p : Parts) (l : TableLink) (ls : List TableLink) → path_cmp p l.path ≡ Less → AllAbove l.path ls → AllAbove p ls
 above_all p l [] less all = tt
 above_all p l (k ∷ ls) less all = (path_total.trans p l.path k.path less all.0, above_all p l ls less all.1)
 
@@ -209,15 +203,5 @@ rest_made now new c made last = all_front MakesLink new (c ∷ []) (subst MakeLi
 -- ---- changes that make links
 
 pub made_links : (cs : List Change) → cs ≡ map link_change (links_in cs) → MakeLinks cs
-made_links cs is = by cs is
-  where
-    tail_of : List Change → List Change
-    tail_of [] = []
-    tail_of (c ∷ cs) = cs
-
-    head_is : (c d : Change) (cs ds : List Change) → c ∷ cs ≡ d ∷ ds → c ≡ d
-    head_is c d cs ds e = cc
-
-    by : (cs : List Change) → cs ≡ map link_change (links_in cs) → MakeLinks cs
-    by [] is = tt
-    by (c ∷ cs) is = (head_is c (link_change (link_in c)) cs (map link_change (links_in cs)) is, by cs (ap tail_of is))
+made_links [] is = tt
+made_links (c ∷ cs) is = let here = same_heads c (link_change (link_in c)) cs (map link_change (links_in cs)) is in (here.0, made_links cs here.1)

@@ -1,9 +1,6 @@
 -- The names that stand directly below each of some paths, as one path more is come to.
-use Rattle.fx_table.proofs.Prelude.{◌≡◌, ℕ, zero, suc, ◌+◌, ◌-◌, ◌<◌, ◌≤◌, Bool, true, false, cond, List, [], ◌∷◌, ◌++◌, map, take, drop, length, set, get_or, Option, Some, None, option_map, is_some, refl, sym, ◌∙◌, ap, subst, arith, append-nil, length-append, replicate, inl, inr, Vec, Less, AllByRecursion, cons_option, slice_get, IsStrictlySortedBy, eq_by_cmp, take_all, length-map, map-set, get_or-map, drop-map, drop-drop, All-from_recursion, slice_get_within, slice_get-map, same_Some, cases_lt, keys_of, All-at, length_keys, some_at, not_before_itself, none_of, some_of, Parts, above, name_in, name_in_folder, name_cmp, path_cmp, Change, mapped_of, Mapped, names_below, rest_of}
-use Rattle.std.specs.Cmp.Lexicographic.{pointwise}
-use Rattle.std.proofs.Math.Seq.{take-append_seam}
+use Rattle.fx_table.proofs.Prelude.{◌≡◌, ℕ, zero, suc, ◌+◌, ◌-◌, ◌<◌, ◌≤◌, Bool, true, false, cond, List, [], ◌∷◌, ◌++◌, map, take, drop, length, set, get_or, Option, Some, None, option_map, is_some, refl, sym, ◌∙◌, ap, subst, arith, append-nil, length-append, replicate, inl, inr, Vec, Less, AllByRecursion, cons_option, slice_get, IsStrictlySortedBy, eq_by_cmp, take_all, length-map, map-set, get_or-map, drop-map, drop-drop, All-from_recursion, slice_get_within, slice_get-map, same_Some, cases_lt, keys_of, All-at, length_keys, some_at, not_before_itself, none_of, some_of, Parts, above, name_in, name_in_folder, name_cmp, path_cmp, Change, mapped_of, Mapped, names_below, rest_of, pointwise, take-append_seam, items_of, HasNoFolder, IsFolderAt, IsAddedAt, HasChildAdded}
 use mathlib.Core.Path.{fun_ext}
-use Rattle.fx_table.specs.Lists.{items_of, HasNoFolder, IsFolderAt, IsAddedAt, HasChildAdded}
 use Rattle.fx_table.proofs.Behind.{named_child, none_named}
 use Rattle.fx_table.proofs.Naming.{mapped_len, part_listed, part_keys, same_names}
 

@@ -1,26 +1,14 @@
 -- Changes that make the links of a table among what a filestore holds.
-use Rattle.fx_table.proofs.Prelude.{◌≡◌, ◌⊎◌, inl, inr, ℕ, ◌+◌, ◌<◌, ◌≤◌, drop, Bool, true, false, cond, ◌||◌, List, [], ◌∷◌, ◌++◌, map, length, Option, Some, None, IfSome, option_map, refl, sym, ◌∙◌, ap, subst, arith, length-append, length-drop, nat_lt, unwrap_or, codes, ◌/◌, ◌%◌, Less, Equal, Greater, eq_by_cmp, AllByRecursion, cons_option, IsStrictlySortedBy, keys_of, get, find, put, entries, entries_sorted, get-entries, get-from_entries, by_order, nat_tests, filter_map-append, same_Some, Parts, strictly_sorted, Node, File, Dir, Link, Change, IsChanges, changed_paths, change_at, path_cmp, path_text, IsNameSet, path_total, path_eq_same, Nodes, IsWhole, IsNode, lists, over_nodes, get-over_nodes, same_nodes, Mapped, listed, with_links, with_flags, with_lines, IsOfBytes, AreOfBytes, IsNodeBounded, IsTreeShaped, changes_of, HaveNameSets, lines_in, AreLines, link_bytes, ReadsAll, LinesCause, mapped_of, Mark, Target, Executable, TableLine, TableLink, is_dir, mark_text, line_of, lines_text, links_among, link_in_line, flag_at, is_second, body_of, read_table, is_plain_byte, spelled, spelling}
-use Rattle.std.specs.Fmt.{digit_glyph}
-use Rattle.std.proofs.lemmas.List.Sums.{sum_by-cons}
-use Rattle.std.specs.declared.cmp.Ordering.{Ordering}
+use Rattle.fx_table.proofs.Prelude.{◌≡◌, ◌⊎◌, inl, inr, ℕ, ◌+◌, ◌<◌, ◌≤◌, drop, Bool, true, false, cond, ◌||◌, List, [], ◌∷◌, ◌++◌, map, length, Option, Some, None, IfSome, option_map, refl, sym, ◌∙◌, ap, subst, arith, length-append, length-drop, nat_lt, unwrap_or, codes, ◌/◌, ◌%◌, Less, Equal, Greater, eq_by_cmp, AllByRecursion, cons_option, IsStrictlySortedBy, keys_of, get, find, put, entries, entries_sorted, get-entries, get-from_entries, by_order, nat_tests, filter_map-append, same_Some, Parts, strictly_sorted, Node, File, Dir, Link, Change, IsChanges, changed_paths, change_at, path_cmp, path_text, IsNameSet, path_total, path_eq_same, Nodes, IsWhole, IsNode, lists, over_nodes, get-over_nodes, same_nodes, Mapped, listed, with_links, with_flags, with_lines, IsOfBytes, AreOfBytes, IsNodeBounded, IsTreeShaped, changes_of, HaveNameSets, lines_in, AreLines, link_bytes, ReadsAll, LinesCause, mapped_of, Mark, Target, Executable, TableLine, TableLink, is_dir, mark_text, line_of, lines_text, links_among, link_in_line, flag_at, is_second, body_of, read_table, is_plain_byte, spelled, spelling, digit_glyph, sum_by-cons, Ordering, over-change_at, none_above, BadName, Strange, TooLarge, BadTable, LoadFault, Refused, ReadFault, NoMemory, Room, Level, with_exec, linked_nodes, MakesTable, TableCause, emptied_node, differs, changed_flag, kept_change, kept_of, Keeps, CanMerge, left_of, AreLevels}
 use Rattle.fx_store.specs.Whole.{over}
-use Rattle.fx_store.proofs.Overlays.{over-change_at, none_above}
-use Rattle.fx_table.specs.declared.fault.FolderCause.TheVariants.{BadName, Strange, TooLarge, BadTable}
-use Rattle.fx_table.specs.declared.fault.LoadFault.{LoadFault}
-use Rattle.fx_table.specs.declared.fault.LoadFault.TheVariants.{Refused, ReadFault, NoMemory}
-use Rattle.fx_table.specs.declared.lines.Room.{Room}
-use Rattle.fx_table.specs.declared.descent.Level.{Level}
-use Rattle.fx_table.specs.Flags.{with_exec}
-use Rattle.fx_table.specs.Linked.{linked_nodes, MakesTable, TableCause, emptied_node, bare, differs, changed_flag, kept_change, kept_of, Keeps}
-use Rattle.fx_table.specs.Merges.{CanMerge}
-use Rattle.fx_table.specs.Remaining.{left_of, AreLevels}
+use Rattle.fx_table.specs.Linked.{bare}
 use Rattle.fx_table.specs.Table.{over as setting}
 use Rattle.fx_table.proofs.Bodies.{bad_read}
 use Rattle.fx_table.proofs.Flagging.{find_flags, keys_flags, bytes_flags, lines_made, lines_merge}
 use Rattle.fx_table.proofs.Linking.{IsLinked, find_linked}
-use Rattle.fx_table.proofs.Making.{set_at, paths_of, keys_with}
+use Rattle.fx_table.proofs.Making.{set_at, paths_of}
 use Rattle.fx_table.proofs.Naming.{mapped_changes, same_names}
-use Rattle.fx_table.proofs.Shapes.{found, is_set, find_listed, relisted}
+use Rattle.fx_table.proofs.Shapes.{found, is_set, find_listed, find_mapped, keys_mapped, keys_with, relisted}
 use Rattle.fx_table.proofs.Versions.{tables_are_read}
 
 -- ---- the bare nodes of a filestore
@@ -32,16 +20,10 @@ pub record IsBaring (nodes : Nodes) (all : List Change) (levels : List Level) : 
 -- ---- keys
 
 keys_bare : (es : List Mapped) → keys_of (map bare es) ≡ keys_of es
-keys_bare [] = refl
-keys_bare (e ∷ es) = ap (λ l. e.0 ∷ l) (keys_bare es)
+keys_bare es = keys_mapped bare (λ p. emptied_node) (λ p node. refl) es
 
 find_bare : (es : List Mapped) (q : Parts) → found (map bare es) q ≡ option_map emptied_node (found es q)
-find_bare [] q = refl
-find_bare (e ∷ es) q = by (eq_by_cmp path_cmp q e.0) (find_bare es q)
-  where
-    by : (b : Bool) → found (map bare es) q ≡ option_map emptied_node (found es q) → cond b (Some (emptied_node e.1)) (found (map bare es) q) ≡ option_map emptied_node (cond b (Some e.1) (found es q))
-    by true rest = refl
-    by false rest = rest
+find_bare es q = find_mapped bare (λ p. emptied_node) (λ p node. refl) es q
 
 -- the keys of entries with one link more go by the keys alone
 key_put : Parts → List Parts → List Parts

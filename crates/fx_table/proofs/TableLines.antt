@@ -1,18 +1,8 @@
 -- The lines of a table are read back, and no other text is read.
-use Rattle.fx_table.proofs.Prelude.{◌≡◌, ℕ, ◌+◌, ◌<◌, ◌≤◌, ◌==◌, Bool, true, false, cond, ◌&&◌, IsTrue, List, [], ◌∷◌, ◌++◌, length, length-append, codes, map, refl, sym, ap, subst, ◌∙◌, arith, Option, Some, None, Result, Ok, Err, append_assoc, append-nil, All, bytes_eq, is_ok, is_some, nat_lt, is_lt, filter_map, slice_split, join_with_byte, cons_option, IsStrictlySortedBy, false≢true, and_from, nat_tests, same_Some, map-append, All-nil, All-cons, All-head, All-tail, All-append, All-push, All-weaker, All-at, at_middle, same_heads, chosen_some, chosen_ok, IsPath, IsLinkText, path_cmp, path_text, has_link_form, components, is_above, path_total, read_path_text, path_bytes, spelling, unspelled, Mark, Target, Executable, TableLine, mark_text, line_of, lines_text, linked_line, link_of, flagged, flag_of, read_parts, is_space, read_line, Setting, has_place, next_line, with_first, read_on, read_lines, is_feed, read_from, IsMark, IsLine, IsTableBehind, AreLinesOver, IsFirstBadOf, IsStopped, read_of, link_by, flag_by}
-use Rattle.std.proofs.lemmas.Slice.Eq.{bytes_eq-Decides}
-use Rattle.std.proofs.lemmas.List.Splits.{slice_split_none, slice_split_at, length-slice_split, join_with_byte-slice_split}
-use Rattle.fx_base.proofs.Booleans.{second_true, first_true}
-use Rattle.fx_store.specs.declared.name.PathFault.{PathFault}
-use Rattle.fx_store.specs.declared.name.PathFault.TheVariants.{BadName, TooDeep}
-use Rattle.fx_store.specs.Faults.{read_path, read_link}
-use Rattle.fx_store.proofs.Ascending.{ascending-push, above_from_ascending}
-use Rattle.fx_store.proofs.SpellingLaws.{path_texts_read}
+use Rattle.fx_table.proofs.Prelude.{◌≡◌, ℕ, ◌+◌, ◌<◌, ◌≤◌, ◌==◌, Bool, true, false, cond, ◌&&◌, IsTrue, List, [], ◌∷◌, ◌++◌, length, length-append, codes, map, refl, sym, ap, subst, ◌∙◌, arith, Option, Some, None, Result, Ok, Err, append_assoc, append-nil, All, bytes_eq, is_ok, is_some, nat_lt, is_lt, filter_map, slice_split, join_with_byte, cons_option, IsStrictlySortedBy, false≢true, and_from, nat_tests, same_Some, map-append, All-nil, All-cons, All-head, All-tail, All-append, All-push, All-weaker, All-at, at_middle, same_heads, chosen_some, chosen_ok, IsPath, IsLinkText, path_cmp, path_text, has_link_form, components, is_above, path_total, read_path_text, path_bytes, spelling, unspelled, Mark, Target, Executable, TableLine, mark_text, line_of, lines_text, linked_line, link_of, flagged, flag_of, read_parts, is_space, read_line, Setting, has_place, next_line, with_first, read_on, read_lines, is_feed, read_from, IsMark, IsLine, IsTableBehind, AreLinesOver, IsFirstBadOf, IsStopped, read_of, link_by, flag_by, bytes_eq-Decides, slice_split_none, slice_split_at, length-slice_split, join_with_byte-slice_split, second_true, first_true, PathFault, TooDeep, read_path, read_link, ascending-push, above_from_ascending, path_texts_read, Parts}
+use Rattle.fx_store.specs.declared.name.PathFault.TheVariants.{BadName}
 use Rattle.fx_table.proofs.Gives.{link_gives, flag_gives, read_from_bytes}
 use Rattle.fx_table.proofs.TableSpelling.{spelling_read, read_spelling, spelling_visible}
-
-abbrev Paths : Type 0
-Paths = List (List ℕ)
 
 -- ---- paths and link texts
 
@@ -27,7 +17,7 @@ not_many : (n : ℕ) → nat_lt 64 n ≡ false → n ≤ 64
 not_many n h = grind (arith, nat_tests)
 
 -- what a spelled path is read from
-path_of_read : (spelled : List ℕ) (p : Paths) → read_of read_path (unspelled spelled) ≡ Some p → (spelling (path_text p) ≡ spelled) × IsPath p
+path_of_read : (spelled : List ℕ) (p : Parts) → read_of read_path (unspelled spelled) ≡ Some p → (spelling (path_text p) ≡ spelled) × IsPath p
 path_of_read spelled p e =
     let from = read_from_bytes read_path (unspelled spelled) p e in
     let law = path_texts_read from.0 p in
@@ -61,17 +51,17 @@ no_space bs = lacks 32 (omega arith) bs
 arrow_has_none : All (λ b. is_space b ≡ false) (codes "->")
 arrow_has_none = All-cons (λ b. is_space b ≡ false) 45 (62 ∷ []) refl (All-cons (λ b. is_space b ≡ false) 62 [] refl (All-nil (λ b. is_space b ≡ false)))
 
-line_parts : (path : Paths) (text : List ℕ) → slice_split is_space (spelling (path_text path) ++ (codes " -> " ++ spelling text)) ≡ spelling (path_text path) ∷ codes "->" ∷ spelling text ∷ []
+line_parts : (path : Parts) (text : List ℕ) → slice_split is_space (spelling (path_text path) ++ (codes " -> " ++ spelling text)) ≡ spelling (path_text path) ∷ codes "->" ∷ spelling text ∷ []
 line_parts path text =
     slice_split_at is_space (spelling (path_text path)) 32 (codes "-> " ++ spelling text) (no_space (path_text path)) refl
     ∙ ap (λ ps. spelling (path_text path) ∷ ps)
     (slice_split_at is_space (codes "->") 32 (spelling text) arrow_has_none refl
     ∙ ap (λ ps. codes "->" ∷ ps) (slice_split_none is_space (spelling text) (no_space text)))
 
-flag_parts : (path : Paths) → slice_split is_space (spelling (path_text path) ++ codes " *") ≡ spelling (path_text path) ∷ codes "*" ∷ []
+flag_parts : (path : Parts) → slice_split is_space (spelling (path_text path) ++ codes " *") ≡ spelling (path_text path) ∷ codes "*" ∷ []
 flag_parts path = slice_split_at is_space (spelling (path_text path)) 32 (codes "*") (no_space (path_text path)) refl
 
-marked_read : (path : Paths) (mark : Mark) → IsPath path → IsMark mark → read_line (spelling (path_text path) ++ mark_text mark) ≡ Some (record { path = path; mark = mark })
+marked_read : (path : Parts) (mark : Mark) → IsPath path → IsMark mark → read_line (spelling (path_text path) ++ mark_text mark) ≡ Some (record { path = path; mark = mark })
 marked_read path (Target text) valid is =
     ap read_parts (line_parts path text)
     ∙ (ap (λ p. link_of p (unspelled (spelling text))) (spelling_read (path_text path) (path_bytes path valid.names))
@@ -89,7 +79,7 @@ pub record IsLineOf (line : List ℕ) (l : TableLine) : Type 0 where
   pub spelled : line ≡ line_of l
   pub valid : IsLine l
 
-link_is : (a b : List ℕ) (x : Option Paths) (y : Option (List ℕ)) (l : TableLine) → read_of read_path (unspelled a) ≡ x → read_of read_link (unspelled b) ≡ y → link_by x y ≡ Some l → IsLineOf (a ++ (codes " -> " ++ b)) l
+link_is : (a b : List ℕ) (x : Option Parts) (y : Option (List ℕ)) (l : TableLine) → read_of read_path (unspelled a) ≡ x → read_of read_link (unspelled b) ≡ y → link_by x y ≡ Some l → IsLineOf (a ++ (codes " -> " ++ b)) l
 link_is a b (Some p) (Some t) l e f is =
     let path = path_of_read a p e in
     let text = link_of_read b t f in
@@ -98,7 +88,7 @@ link_is a b (Some p) (Some t) l e f is =
 link_is a b (Some p) None l e f is = absurd (false≢true (ap is_some is))
 link_is a b None y l e f is = absurd (false≢true (ap is_some is))
 
-flag_is : (a : List ℕ) (x : Option Paths) (l : TableLine) → read_of read_path (unspelled a) ≡ x → flag_by x ≡ Some l → IsLineOf (a ++ codes " *") l
+flag_is : (a : List ℕ) (x : Option Parts) (l : TableLine) → read_of read_path (unspelled a) ≡ x → flag_by x ≡ Some l → IsLineOf (a ++ codes " *") l
 flag_is a (Some p) l e is =
     let path = path_of_read a p e in
     subst (IsLineOf (a ++ codes " *")) (same_Some _ l is)
@@ -139,7 +129,7 @@ pub some_line : (text : List ℕ) → 0 < length (slice_split is_feed text)
 some_line text = omega (arith, length-slice_split is_feed text)
 
 -- a line with its line feed
-read_more : (S : Setting) (before : Paths) (number : ℕ) (line : List ℕ) (lines : List (List ℕ)) → 0 < length lines
+read_more : (S : Setting) (before : Parts) (number : ℕ) (line : List ℕ) (lines : List (List ℕ)) → 0 < length lines
     → read_lines S before number (line ∷ lines) ≡ read_on number (next_line S before (read_line line)) (λ link. read_lines S link.path (number + 1) lines)
 read_more S before number line [] some = absurd (omega arith)
 read_more S before number [] (next ∷ lines) some = refl
@@ -149,16 +139,16 @@ abbrev pub Stands : Setting → TableLine → Type 0
 Stands S l = IsTrue (has_place S l)
 
 -- the first link of a table and the others
-first_stands : (S : Setting) (before : Paths) (l : TableLine) (ls : List TableLine) → IsTableBehind S before (l ∷ ls) → next_line S before (Some l) ≡ Some l
+first_stands : (S : Setting) (before : Parts) (l : TableLine) (ls : List TableLine) → IsTableBehind S before (l ∷ ls) → next_line S before (Some l) ≡ Some l
 unfolding IsStrictlySortedBy
 first_stands S before l ls t =
     ap (λ b. cond b (Some l) None) (and_from (is_lt (path_cmp before l.path)) (has_place S l) (ap is_lt t.ascending.0.0) (All-head (Stands S) l ls t.stand))
 
-others_stand : (S : Setting) (before : Paths) (l : TableLine) (ls : List TableLine) → IsTableBehind S before (l ∷ ls) → IsTableBehind S l.path ls
+others_stand : (S : Setting) (before : Parts) (l : TableLine) (ls : List TableLine) → IsTableBehind S before (l ∷ ls) → IsTableBehind S l.path ls
 unfolding IsStrictlySortedBy
 others_stand S before l ls t = record { valid = All-tail IsLine l ls t.valid; stand = All-tail (Stands S) l ls t.stand; ascending = t.ascending.1 }
 
-table_read : (S : Setting) (before : Paths) (number : ℕ) (ls : List TableLine) → IsTableBehind S before ls → read_lines S before number (slice_split is_feed (lines_text ls)) ≡ Ok ls
+table_read : (S : Setting) (before : Parts) (number : ℕ) (ls : List TableLine) → IsTableBehind S before ls → read_lines S before number (slice_split is_feed (lines_text ls)) ≡ Ok ls
 table_read S before number [] t = refl
 table_read S before number (l ∷ ls) t =
     let rest = slice_split is_feed (lines_text ls) in
@@ -174,7 +164,7 @@ lines_are_read S first lines t = table_read S [] first lines t
 
 -- ---- one line more
 
-abbrev pub paths_of : List TableLine → List Paths
+abbrev pub paths_of : List TableLine → List Parts
 paths_of ls = map (λ (l : TableLine). l.path) ls
 
 -- a line that has its place behind others
@@ -198,17 +188,17 @@ last_next S ls l table = record {
 }
 
 -- the path is that of the last line, or the root's
-abbrev IsLast : List TableLine → Paths → Type 0
-IsLast ls before = (p : Paths) → is_lt (path_cmp before p) ≡ is_above path_cmp ([] ∷ paths_of ls) p
+abbrev IsLast : List TableLine → Parts → Type 0
+IsLast ls before = (p : Parts) → is_lt (path_cmp before p) ≡ is_above path_cmp ([] ∷ paths_of ls) p
 
 last_pushed : (ls : List TableLine) (l : TableLine) → IsLast (ls ++ l ∷ []) l.path
 last_pushed ls l p = by [] (paths_of ls) ∙ ap (λ ps. is_above path_cmp ([] ∷ ps) p) (sym (map-append (λ (k : TableLine). k.path) ls (l ∷ [])))
   where
-    by : (q : Paths) (ps : List Paths) → is_lt (path_cmp l.path p) ≡ is_above path_cmp (q ∷ (ps ++ l.path ∷ [])) p
+    by : (q : Parts) (ps : List Parts) → is_lt (path_cmp l.path p) ≡ is_above path_cmp (q ∷ (ps ++ l.path ∷ [])) p
     by q [] = refl
     by q (r ∷ ps) = by r ps
 
-module _ (S : Setting) (ls : List TableLine) (before : Paths) (table : AreLinesOver S ls) (last : IsLast ls before) where
+module _ (S : Setting) (ls : List TableLine) (before : Parts) (table : AreLinesOver S ls) (last : IsLast ls before) where
   -- the line is that of a piece, and has its place behind the others
   record Follows (line : List ℕ) (l : TableLine) : Type 0 where
     is : line ≡ line_of l
@@ -296,7 +286,7 @@ module _ (S : Setting) (first : ℕ) (text : List ℕ) where
   joined : (rest : List ℕ) (pieces : List (List ℕ)) → slice_split is_feed rest ≡ pieces → rest ≡ join_with_byte 10 pieces
   joined rest pieces is = sym (join_with_byte-slice_split 10 rest) ∙ ap (join_with_byte 10) is
 
-  reads : (ls : List TableLine) (before : Paths) (number : ℕ) (line : List ℕ) (lines : List (List ℕ)) (rest : List ℕ) → IsAt S text ls rest → IsLast ls before → number ≡ length ls + first → slice_split is_feed rest ≡ line ∷ lines → Ends ls (read_lines S before number (line ∷ lines))
+  reads : (ls : List TableLine) (before : Parts) (number : ℕ) (line : List ℕ) (lines : List (List ℕ)) (rest : List ℕ) → IsAt S text ls rest → IsLast ls before → number ≡ length ls + first → slice_split is_feed rest ≡ line ∷ lines → Ends ls (read_lines S before number (line ∷ lines))
   reads ls before number [] [] rest at last count is =
       subst (SpellsLines S text) (sym (append-nil ls)) (record { spelled = at_end S text ls rest at (joined rest ([] ∷ []) is); table = at.table })
   reads ls before number (b ∷ line) [] rest at last count is =

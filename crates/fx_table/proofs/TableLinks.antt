@@ -1,35 +1,28 @@
 -- The lines of a whole filestore are a table over the rest of it.
-use Rattle.fx_table.proofs.Prelude.{◌≡◌, ℕ, suc, ◌-◌, ◌<◌, true, false, cond, List, [], ◌∷◌, ◌++◌, length, take, map, get_or, refl, sym, ap, subst, ◌∙◌, arith, Option, Some, None, IsSome, is_some, All, Bool, IfSome, IsTrue, eq_by_cmp, is_eq, ordering_reverse, Less, filter_map, AllByRecursion, IsStrictlySortedBy, keys_of, get, entries, find, get-entries, entries_sorted, false≢true, All-nil, All-cons, strictly_sorted, Node, File, Dir, Link, path_cmp, IsPath, path_total, Store, Nodes, IsWhole, IsNode, lists, root_first, Target, Executable, TableLine, line_at, lines_of, is_dir, is_file, can_stand, has_place, IsMark, IsLine, IsTable, but_no_link, unlinked}
-use Rattle.std.specs.Cmp.{eq_by_cmp_equiv}
-use Rattle.std.proofs.Math.Seq.{take-length, take-suc}
-use Rattle.fx_store.specs.Resolve.{parent}
-use Rattle.fx_table.specs.Table.{over}
-
-abbrev Paths : Type 0
-Paths = List (List ℕ)
+use Rattle.fx_table.proofs.Prelude.{◌≡◌, ℕ, suc, ◌-◌, ◌<◌, true, false, cond, List, [], ◌∷◌, ◌++◌, length, take, map, get_or, refl, sym, ap, subst, ◌∙◌, arith, Option, Some, None, IsSome, is_some, All, Bool, IfSome, IsTrue, eq_by_cmp, is_eq, ordering_reverse, Less, filter_map, AllByRecursion, IsStrictlySortedBy, keys_of, get, entries, find, get-entries, entries_sorted, false≢true, All-nil, All-cons, strictly_sorted, Node, File, Dir, Link, path_cmp, IsPath, path_total, Store, Nodes, IsWhole, IsNode, lists, root_first, Target, Executable, TableLine, line_at, lines_of, is_dir, is_file, can_stand, has_place, IsMark, IsLine, IsTable, but_no_link, unlinked, eq_by_cmp_equiv, take-length, take-suc, parent, over, Parts}
 
 -- ---- each entry is found by its path
 
-abbrev pub AreFound : List (Paths × Node) → List (Paths × Node) → Type 0
+abbrev pub AreFound : List (Parts × Node) → List (Parts × Node) → Type 0
 AreFound [] es = Unit {0}
 AreFound (f ∷ fs) es = (find path_cmp f.0 es ≡ Some f.1) × AreFound fs es
 
-not_tied : (p q : Paths) → path_cmp p q ≡ Less → eq_by_cmp path_cmp q p ≡ false
+not_tied : (p q : Parts) → path_cmp p q ≡ Less → eq_by_cmp path_cmp q p ≡ false
 not_tied p q e = ap is_eq (path_total.antisymm q p ∙ ap ordering_reverse e)
 
-found_behind : (e : Paths × Node) (fs es : List (Paths × Node)) → AllByRecursion (λ p. path_cmp e.0 p ≡ Less) (keys_of fs) → AreFound fs es → AreFound fs (e ∷ es)
+found_behind : (e : Parts × Node) (fs es : List (Parts × Node)) → AllByRecursion (λ p. path_cmp e.0 p ≡ Less) (keys_of fs) → AreFound fs es → AreFound fs (e ∷ es)
 found_behind e [] es less found = tt
 found_behind e (f ∷ fs) es less found =
     (ap (λ b. cond b (Some e.1) (find path_cmp f.0 es)) (not_tied e.0 f.0 less.0) ∙ found.0, found_behind e fs es less.1 found.1)
 
-pub all_found : (es : List (Paths × Node)) → IsStrictlySortedBy path_cmp (keys_of es) → AreFound es es
+pub all_found : (es : List (Parts × Node)) → IsStrictlySortedBy path_cmp (keys_of es) → AreFound es es
 unfolding IsStrictlySortedBy
 all_found [] up = tt
 all_found (e ∷ es) up = (ap (λ b. cond b (Some e.1) (find path_cmp e.0 es)) ((eq_by_cmp_equiv path_total).refl e.0), found_behind e es es up.0 (all_found es up.1))
 
 -- ---- a link of a whole filestore
 
-last_off : (p : Paths) → 0 < length p → p ≡ parent p ++ get_or p (length p - 1) [] ∷ []
+last_off : (p : Parts) → 0 < length p → p ≡ parent p ++ get_or p (length p - 1) [] ∷ []
 last_off p some =
     let n : suc (length p - 1) ≡ length p = omega (arith, some) in
     sym (take-length p) ∙ (ap (λ k. take k p) (sym n) ∙ take-suc p (length p - 1) [] (omega (arith, some)))
@@ -41,44 +34,44 @@ dir_lists (Some (Dir names)) name e = refl
 dir_lists (Some (Link text)) name e = absurd (false≢true e)
 
 module _ (S : Store) (whole : IsWhole S) where
-  parent_lists : (p : Paths) → IsSome (S p) → 0 < length p → is_dir (unlinked S (parent p)) ≡ true
+  parent_lists : (p : Parts) → IsSome (S p) → 0 < length p → is_dir (unlinked S (parent p)) ≡ true
   parent_lists p here some =
       let name = get_or p (length p - 1) [] in
       dir_lists (S (parent p)) name (sym (whole.listed (parent p) name) ∙ (ap (λ q. is_some (S q)) (sym (last_off p some)) ∙ here))
 
-  pub below_root : (p : Paths) (node : Node) → is_dir (Some node) ≡ false → S p ≡ Some node → 0 < length p
+  pub below_root : (p : Parts) (node : Node) → is_dir (Some node) ≡ false → S p ≡ Some node → 0 < length p
   below_root [] node plain e = let root = whole.root in absurd (false≢true (sym plain ∙ (ap is_dir (sym e) ∙ ap is_dir root.1)))
   below_root (n ∷ p) node plain e = omega arith
 
-  can : (p : Paths) (text : List ℕ) → S p ≡ Some (Link text) → can_stand (unlinked S) p ≡ true
+  can : (p : Parts) (text : List ℕ) → S p ≡ Some (Link text) → can_stand (unlinked S) p ≡ true
   can p text e = rw (parent_lists p (ap is_some e) (below_root p (Link text) refl e), e) refl
 
-  stands : (p : Paths) (bytes : List ℕ) (exec : Bool) → S p ≡ Some (File bytes exec) → is_file (unlinked S p) ≡ true
+  stands : (p : Parts) (bytes : List ℕ) (exec : Bool) → S p ≡ Some (File bytes exec) → is_file (unlinked S p) ≡ true
   stands p bytes exec e = ap (λ o. is_file (but_no_link o)) e
 
-  within : (p : Paths) (node : Node) → S p ≡ Some node → IsPath p
+  within : (p : Parts) (node : Node) → S p ≡ Some node → IsPath p
   within p node e = whole.paths p (ap is_some e)
 
-  text_within : (p : Paths) (text : List ℕ) → S p ≡ Some (Link text) → IsMark (Target text)
+  text_within : (p : Parts) (text : List ℕ) → S p ≡ Some (Link text) → IsMark (Target text)
   text_within p text e = subst (λ o. IfSome o (IsNode p)) e (whole.nodes p)
 
 -- ---- the lines of some entries
 
-abbrev paths_of : List TableLine → List Paths
+abbrev paths_of : List TableLine → List Parts
 paths_of ls = map (λ (l : TableLine). l.path) ls
 
-abbrev lines_among : List (Paths × Node) → List TableLine
+abbrev lines_among : List (Parts × Node) → List TableLine
 lines_among es = filter_map line_at es
 
 -- what holds of all paths holds of those of the lines
-all_kept : (P : Paths → Type 0) (es : List (Paths × Node)) → AllByRecursion P (keys_of es) → AllByRecursion P (paths_of (lines_among es))
+all_kept : (P : Parts → Type 0) (es : List (Parts × Node)) → AllByRecursion P (keys_of es) → AllByRecursion P (paths_of (lines_among es))
 all_kept P [] all = tt
 all_kept P ((p, File bytes true) ∷ es) all = (all.0, all_kept P es all.1)
 all_kept P ((p, File bytes false) ∷ es) all = all_kept P es all.1
 all_kept P ((p, Dir names) ∷ es) all = all_kept P es all.1
 all_kept P ((p, Link text) ∷ es) all = (all.0, all_kept P es all.1)
 
-sorted_kept : (es : List (Paths × Node)) → IsStrictlySortedBy path_cmp (keys_of es) → IsStrictlySortedBy path_cmp (paths_of (lines_among es))
+sorted_kept : (es : List (Parts × Node)) → IsStrictlySortedBy path_cmp (keys_of es) → IsStrictlySortedBy path_cmp (paths_of (lines_among es))
 unfolding IsStrictlySortedBy
 sorted_kept [] up = tt
 sorted_kept ((p, File bytes true) ∷ es) up = (all_kept (λ q. path_cmp p q ≡ Less) es up.0, sorted_kept es up.1)
@@ -104,7 +97,7 @@ more S l ls valid stand some later = record {
 }
 
 module _ (nodes : Nodes) (whole : IsWhole (get nodes)) where
-  are_lines : (es : List (Paths × Node)) → AreFound es (entries nodes) → AreLines (get nodes) (lines_among es)
+  are_lines : (es : List (Parts × Node)) → AreFound es (entries nodes) → AreLines (get nodes) (lines_among es)
   are_lines [] found = record { valid = All-nil IsLine; stand = All-nil (HasPlace (get nodes)); below = tt }
   are_lines ((p, File bytes false) ∷ es) found = are_lines es found.1
   are_lines ((p, Dir names) ∷ es) found = are_lines es found.1

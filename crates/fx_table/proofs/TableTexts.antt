@@ -1,10 +1,5 @@
 -- The text of a table, while a walk writes it.
-use Rattle.fx_table.proofs.Prelude.{◌≡◌, ℕ, Bool, true, false, ◌||◌, refl, sym, append_assoc, List, [], ◌∷◌, ◌++◌, Some, ◌∙◌, ap, filter_map, same_Some, Node, File, Dir, Link, Nodes, TableLine, line_at, lines_of, lines_text, has_flags}
-use Rattle.fx_table.specs.declared.descent.Entry.{Entry}
-use Rattle.fx_table.specs.declared.descent.Level.{Level}
-use Rattle.fx_table.specs.declared.links.TableText.{TableText}
-use Rattle.fx_table.specs.Texts.{line_text_at, flag_of_node, lines_so_far, flags_so_far, AddsLine}
-use Rattle.fx_table.specs.Remaining.{left_of, AreLevels, IsLeftBelow, TakesEntry}
+use Rattle.fx_table.proofs.Prelude.{◌≡◌, ℕ, Bool, true, false, ◌||◌, refl, sym, append_assoc, List, [], ◌∷◌, ◌++◌, Some, ◌∙◌, ap, filter_map, same_Some, Node, File, Dir, Link, Nodes, TableLine, line_at, lines_of, lines_text, has_flags, Entry, Level, TableText, line_text_at, flag_of_node, lines_so_far, flags_so_far, AddsLine, left_of, AreLevels, IsLeftBelow, TakesEntry}
 
 -- the lines of nodes
 abbrev pub lines_among : List (List (List ℕ) × Node) → List TableLine

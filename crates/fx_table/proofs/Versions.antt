@@ -1,7 +1,5 @@
 -- Tables of both versions: the text of one is read as its lines, and no other text is.
-use Rattle.fx_table.proofs.Prelude.{◌≡◌, inl, inr, ℕ, Bool, true, false, cond, not, ◌&&◌, ◌||◌, List, [], ◌∷◌, ◌++◌, take, drop, refl, sym, ap, subst, ◌∙◌, Result, Ok, Err, append-nil, All, is_ok, false≢true, not-false, or_parts, take-append-drop, All-nil, All-cons, All-head, All-tail, All-weaker, Store, Mark, Target, Executable, TableLine, mark_text, lines_text, is_flag_mark, has_flags, version_line, table_text, can_mark, read_from, is_second, body_of, first_number, setting_of, read_body, lacks_flags, unless_lacking, read_table, IsLine, AreLinesOver, IsTable, SpellsTable, IsFirstBadOf, IsFirstBadLine, spelling, path_text}
-use Rattle.std.proofs.lemmas.Slice.Eq.{bytes_eq-Decides}
-use Rattle.fx_table.specs.Table.{over}
+use Rattle.fx_table.proofs.Prelude.{◌≡◌, inl, inr, ℕ, Bool, true, false, cond, not, ◌&&◌, ◌||◌, List, [], ◌∷◌, ◌++◌, take, drop, refl, sym, ap, subst, ◌∙◌, Result, Ok, Err, append-nil, All, is_ok, false≢true, not-false, or_parts, take-append-drop, All-nil, All-cons, All-head, All-tail, All-weaker, Store, Mark, Target, Executable, TableLine, mark_text, lines_text, is_flag_mark, has_flags, version_line, table_text, can_mark, read_from, is_second, body_of, first_number, setting_of, read_body, lacks_flags, unless_lacking, read_table, IsLine, AreLinesOver, IsTable, SpellsTable, IsFirstBadOf, IsFirstBadLine, spelling, path_text, bytes_eq-Decides, over}
 use Rattle.fx_table.proofs.TableLines.{Stands, lines_are_read, texts_are_lines, lines_are_readable, bad_line_is_first}
 
 -- ---- the version of a text

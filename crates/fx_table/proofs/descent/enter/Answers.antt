@@ -1,6 +1,4 @@
-use Rattle.std.proofs.Common.{rules, ◌≡◌, Some}
-use Rattle.std.specs.FinMap.{get}
-use Rattle.fx_store.specs.declared.node.Node.TheVariants.{Dir}
+use Rattle.fx_table.proofs.Prelude.{rules, ◌≡◌, Some, get, Dir}
 use Rattle.fx_table.proofs.Descents.{entered_left}
 use Rattle.fx_table.proofs.descent.enter.Goals as goal
 

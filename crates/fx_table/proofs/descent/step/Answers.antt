@@ -1,6 +1,4 @@
-use Rattle.std.proofs.Common.{sym, ap, ◌∙◌}
-use Rattle.std.specs.Prelude.{option_copied}
-use Rattle.std.specs.FinMap.{get}
+use Rattle.fx_table.proofs.Prelude.{sym, ap, ◌∙◌, option_copied, get}
 use Rattle.fx_table.proofs.Descents.{stepped, child_there, next_below, gone}
 use Rattle.fx_table.proofs.descent.step.Goals as goal
 

@@ -1,6 +1,4 @@
-use Rattle.std.proofs.Common.{rules, arith}
-use Rattle.std.proofs.lemmas.Fn.{always_returns_same}
-use Rattle.fx_store.specs.Names.{path_cmp}
+use Rattle.fx_table.proofs.Prelude.{rules, arith, always_returns_same, path_cmp}
 use Rattle.fx_table.proofs.Searching.{rises_in, found_in, absent_in}
 use Rattle.fx_table.proofs.ground.node_in.Goals as goal
 

@@ -1,8 +1,4 @@
-use Rattle.std.proofs.Common.{◌≡◌, Some, ap, sym, ◌∙◌}
-use Rattle.std.specs.List.{slice_get}
-use Rattle.std.proofs.lemmas.Option.{slice_get-get_or}
-use Rattle.fx_table.specs.Lines.{lines_in}
-use Rattle.fx_table.specs.Table.{has_flags}
+use Rattle.fx_table.proofs.Prelude.{◌≡◌, Some, ap, sym, ◌∙◌, slice_get, slice_get-get_or, lines_in, has_flags}
 use Rattle.fx_table.proofs.Flagging.{flag_within}
 use Rattle.fx_table.proofs.lines.has_flags.Goals as goal
 

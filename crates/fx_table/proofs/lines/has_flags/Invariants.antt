@@ -1,6 +1,4 @@
-use Rattle.std.proofs.Common.{◌≡◌, false, take}
-use Rattle.fx_table.specs.Lines.{lines_in}
-use Rattle.fx_table.specs.Table.{has_flags}
+use Rattle.fx_table.proofs.Prelude.{◌≡◌, false, take, lines_in, has_flags}
 use Rattle.fx_table.proofs.lines.has_flags.Given as goal
 
 abbrev pub invariant-loop-line : goal.invariant-loop-line

@@ -1,6 +1,4 @@
-use Rattle.std.proofs.Common.{◌++◌, ◌∷◌, [], ap, refl, sym, subst, ◌∙◌}
-use Rattle.fx_table.specs.Lines.{TakesRoom, lines_in}
-use Rattle.fx_table.specs.Table.{over}
+use Rattle.fx_table.proofs.Prelude.{◌++◌, ◌∷◌, [], ap, refl, sym, subst, ◌∙◌, TakesRoom, lines_in, over}
 use Rattle.fx_table.proofs.Lining.{bad_line, bad_place, next_line, over_of}
 use Rattle.fx_table.proofs.TableLines.{unfed}
 use Rattle.fx_table.proofs.lines.next_line.Goals as goal

@@ -1,8 +1,4 @@
-use Rattle.std.proofs.Common.{◌==◌, ◌+◌, ℕ, List, length, refl, sym, ap, ◌∙◌}
-use Rattle.std.proofs.lemmas.Bool.{false≢true}
-use Rattle.fx_base.proofs.Errors.{err_of}
-use Rattle.fx_base.proofs.Lists.{no_length}
-use Rattle.fx_table.specs.Table.{over}
+use Rattle.fx_table.proofs.Prelude.{◌==◌, ◌+◌, ℕ, List, length, refl, sym, ap, ◌∙◌, false≢true, err_of, no_length, over}
 use Rattle.fx_table.proofs.Lining.{reading_none, reading_more, reading_end, reading_stops}
 use Rattle.fx_table.proofs.lines.read_body.Goals as goal
 

@@ -1,5 +1,4 @@
-use Rattle.std.proofs.Common.{length}
-use Rattle.fx_table.specs.Table.{over}
+use Rattle.fx_table.proofs.Prelude.{length, over}
 use Rattle.fx_table.proofs.Lining.{IsReading}
 use Rattle.fx_table.proofs.lines.read_body.Given as goal
 

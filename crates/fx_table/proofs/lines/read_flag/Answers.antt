@@ -1,5 +1,4 @@
-use Rattle.std.proofs.Common.{◌≡◌, cond, codes, IfOk, ap, sym, subst, ◌∙◌}
-use Rattle.fx_table.specs.Table.{read_parts}
+use Rattle.std.proofs.Common.{◌≡◌, codes, IfOk, subst}
 use Rattle.fx_table.proofs.Lining.{agrees, differs, no_star, star_said}
 use Rattle.fx_table.proofs.lines.read_flag.Goals as goal
 

@@ -1,5 +1,4 @@
-use Rattle.std.proofs.Common.{◌≡◌, ◌∷◌, IfOk, ap, sym, subst, ◌∙◌}
-use Rattle.fx_table.specs.Table.{read_parts}
+use Rattle.fx_table.proofs.Prelude.{◌≡◌, ◌∷◌, IfOk, ap, sym, subst, ◌∙◌, read_parts}
 use Rattle.fx_table.proofs.lines.read_line.Goals as goal
 
 pub returns-in_default : goal.returns-in_default

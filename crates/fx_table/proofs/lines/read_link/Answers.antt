@@ -1,5 +1,4 @@
-use Rattle.std.proofs.Common.{◌≡◌, ◌∷◌, IfOk, sym, subst}
-use Rattle.fx_table.specs.Table.{read_parts}
+use Rattle.fx_table.proofs.Prelude.{◌≡◌, ◌∷◌, IfOk, sym, subst, read_parts}
 use Rattle.fx_table.proofs.Lining.{many_parts}
 use Rattle.fx_table.proofs.lines.read_link.Goals as goal
 

@@ -1,9 +1,5 @@
-use Rattle.std.proofs.Common.{◌≡◌, ◌+◌, ◌==◌, true, false, None, Some, rules, arith, subst, sym, take}
+use Rattle.fx_table.proofs.Prelude.{◌≡◌, ◌+◌, ◌==◌, true, false, None, Some, rules, arith, subst, sym, take, IsFirst-from_position, YieldsList-from_slice, take_rest, slice_split_none, IsCut}
 use borrow.Author.Tests.{tests}
-use Rattle.std.proofs.lemmas.Iterator.{IsFirst-from_position, YieldsList-from_slice}
-use Rattle.std.proofs.lemmas.List.{take_rest}
-use Rattle.std.proofs.lemmas.List.Splits.{slice_split_none}
-use Rattle.fx_table.specs.Lines.{IsCut}
 use Rattle.fx_table.proofs.Lining.{cut_at}
 use Rattle.fx_table.proofs.lines.split_once.Goals as goal
 

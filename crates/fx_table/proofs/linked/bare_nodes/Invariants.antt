@@ -1,5 +1,4 @@
-use Rattle.std.proofs.Common.{length}
-use Rattle.fx_table.specs.Remaining.{left_of}
+use Rattle.fx_table.proofs.Prelude.{length, left_of}
 use Rattle.fx_table.proofs.Reaching.{IsBaring}
 use Rattle.fx_table.proofs.linked.bare_nodes.Given as goal
 

@@ -1,5 +1,4 @@
-use Rattle.std.proofs.Common.{ap, ◌∙◌}
-use Rattle.fx_store.specs.Whole.{over_nodes}
+use Rattle.fx_table.proofs.Prelude.{ap, ◌∙◌, over_nodes}
 use Rattle.fx_table.proofs.Reaching.{bare_set, bare_merge, all_is, all_set, bare_sets, all_listed, kept_ascend, makes_lines}
 use Rattle.fx_table.proofs.linked.changes_by.Goals as goal
 

@@ -1,5 +1,4 @@
-use Rattle.std.proofs.Common.{◌≡◌}
-use Rattle.fx_table.specs.Linked.{kept_of}
+use Rattle.fx_table.proofs.Prelude.{◌≡◌, kept_of}
 use Rattle.fx_table.proofs.linked.kept_of.Given as goal
 
 abbrev pub invariant-loop-change : goal.invariant-loop-change

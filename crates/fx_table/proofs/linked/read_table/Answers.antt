@@ -1,5 +1,4 @@
-use Rattle.std.proofs.Common.{refl}
-use Rattle.fx_base.proofs.Errors.{err_of}
+use Rattle.fx_table.proofs.Prelude.{refl, err_of}
 use Rattle.fx_table.proofs.Reaching.{table_caused, table_made}
 use Rattle.fx_table.proofs.linked.read_table.Goals as goal
 

@@ -1,7 +1,4 @@
-use Rattle.std.proofs.Common.{◌≡◌, ◌++◌, ◌∷◌}
-use Rattle.std.specs.List.{flat_map}
-use Rattle.std.specs.Slice.Iter.{iter_rest}
-use Rattle.fx_table.specs.TableSpelling.{spelling}
+use Rattle.fx_table.proofs.Prelude.{◌≡◌, ◌++◌, ◌∷◌, flat_map, iter_rest, spelling}
 use Rattle.fx_table.proofs.links.add_names.Given as goal
 
 abbrev pub invariant-loop-name : goal.invariant-loop-name

@@ -1,5 +1,4 @@
-use Rattle.std.proofs.Common.{◌≡◌, ◌++◌, take}
-use Rattle.fx_table.specs.TableSpelling.{spelling}
+use Rattle.fx_table.proofs.Prelude.{◌≡◌, ◌++◌, take, spelling}
 use Rattle.fx_table.proofs.links.add_spelled.Given as goal
 
 abbrev pub invariant-loop-byte : goal.invariant-loop-byte

@@ -1,5 +1,4 @@
-use Rattle.std.proofs.Common.{length}
-use Rattle.fx_table.specs.Remaining.{left_of}
+use Rattle.fx_table.proofs.Prelude.{length, left_of}
 use Rattle.fx_table.proofs.TableTexts.{IsListing}
 use Rattle.fx_table.proofs.links.write_table.Given as goal
 

@@ -1,7 +1,4 @@
-use Rattle.std.proofs.Common.{map, arith}
-use Rattle.std.specs.Map.{keys_of}
-use Rattle.fx_table.specs.Lists.{items_of}
-use Rattle.fx_table.specs.Mapped.{mapped_of}
+use Rattle.fx_table.proofs.Prelude.{map, arith, keys_of, items_of, mapped_of}
 use Rattle.fx_table.proofs.Parents.{folder_within, child_long, child_added, none_added}
 use Rattle.fx_table.proofs.listing.add_child.Goals as goal
 

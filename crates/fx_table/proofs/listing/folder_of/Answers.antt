@@ -1,6 +1,4 @@
-use Rattle.std.proofs.Common.{get_or, sym, ◌∙◌, arith}
-use Rattle.std.specs.Map.{keys_of}
-use Rattle.fx_table.specs.Mapped.{mapped_of}
+use Rattle.fx_table.proofs.Prelude.{get_or, sym, ◌∙◌, arith, keys_of, mapped_of}
 use Rattle.fx_table.proofs.Behind.{key_at}
 use Rattle.fx_table.proofs.Parents.{test_more, test_all}
 use Rattle.fx_table.proofs.listing.folder_of.Goals as goal

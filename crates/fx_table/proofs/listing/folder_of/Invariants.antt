@@ -1,8 +1,4 @@
-use Rattle.std.proofs.Common.{◌≡◌, ℕ, ◌<◌, false, Some, is_some}
-use Rattle.std.specs.List.{slice_get}
-use Rattle.std.specs.Map.{keys_of}
-use Rattle.fx_outside.specs.Path.{Parts, name_in}
-use Rattle.fx_table.specs.Mapped.{mapped_of}
+use Rattle.fx_table.proofs.Prelude.{◌≡◌, ℕ, ◌<◌, false, Some, is_some, slice_get, keys_of, Parts, name_in, mapped_of}
 use Rattle.fx_table.proofs.listing.folder_of.Given as goal
 
 abbrev pub invariant-loop-i : goal.invariant-loop-i

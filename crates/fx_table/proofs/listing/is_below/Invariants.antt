@@ -1,5 +1,4 @@
-use Rattle.std.proofs.Common.{◌≡◌, drop, is_some}
-use Rattle.fx_table.specs.Places.{rest_of}
+use Rattle.fx_table.proofs.Prelude.{◌≡◌, drop, is_some, rest_of}
 use Rattle.fx_table.proofs.listing.is_below.Given as goal
 
 abbrev pub invariant-loop-k : goal.invariant-loop-k

@@ -1,6 +1,4 @@
-use Rattle.std.proofs.Common.{sym, ◌∙◌, subst}
-use Rattle.fx_base.proofs.Lists.{at_index}
-use Rattle.fx_store.specs.Names.{IsNameSet}
+use Rattle.fx_table.proofs.Prelude.{sym, ◌∙◌, subst, at_index, IsNameSet}
 use Rattle.fx_table.proofs.Naming.{key_of, one_path, lists_none, lists_dir}
 use Rattle.fx_table.proofs.listing.list_at.Goals as goal
 

@@ -1,9 +1,4 @@
-use Rattle.std.proofs.Common.{◌≡◌, ◌<◌, length, map, arith}
-use Rattle.std.proofs.lemmas.Grind.{common_steps}
-use Rattle.std.specs.Map.{keys_of}
-use Rattle.fx_table.specs.Listed.{names_below}
-use Rattle.fx_table.specs.Lists.{items_of}
-use Rattle.fx_table.specs.Mapped.{mapped_of}
+use Rattle.fx_table.proofs.Prelude.{◌≡◌, ◌<◌, length, map, arith, common_steps, keys_of, names_below, items_of, mapped_of}
 use Rattle.fx_table.proofs.Naming.{mapped_len, part_sets, part_len, part_more}
 use Rattle.fx_table.proofs.Parents.{list_here, rest_left}
 use Rattle.fx_table.proofs.listing.list_names.Goals as goal

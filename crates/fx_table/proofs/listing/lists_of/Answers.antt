@@ -1,6 +1,4 @@
-use Rattle.std.proofs.Common.{map, get_or, refl, arith}
-use Rattle.fx_table.specs.Lists.{items_of}
-use Rattle.fx_table.specs.Mapped.{mapped_of}
+use Rattle.fx_table.proofs.Prelude.{map, get_or, refl, arith, items_of, mapped_of}
 use Rattle.fx_table.proofs.Naming.{mapped_len}
 use Rattle.fx_table.proofs.Behind.{key_at}
 use Rattle.fx_table.proofs.Parents.{lists_none, lists_more, lists_as_long, lists_all}

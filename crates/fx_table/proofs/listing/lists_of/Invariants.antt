@@ -1,8 +1,4 @@
-use Rattle.std.proofs.Common.{◌≡◌, map, take}
-use Rattle.std.specs.Map.{keys_of}
-use Rattle.fx_table.specs.Listed.{names_below}
-use Rattle.fx_table.specs.Lists.{items_of}
-use Rattle.fx_table.specs.Mapped.{mapped_of}
+use Rattle.fx_table.proofs.Prelude.{◌≡◌, map, take, keys_of, names_below, items_of, mapped_of}
 use Rattle.fx_table.proofs.listing.lists_of.Given as goal
 
 abbrev pub invariant-loop-j : goal.invariant-loop-j

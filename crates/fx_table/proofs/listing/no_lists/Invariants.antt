@@ -1,5 +1,4 @@
-use Rattle.std.proofs.Common.{◌≡◌, [], map, replicate}
-use Rattle.fx_table.specs.Lists.{items_of}
+use Rattle.fx_table.proofs.Prelude.{◌≡◌, [], map, replicate, items_of}
 use Rattle.fx_table.proofs.listing.no_lists.Given as goal
 
 abbrev pub invariant-loop-i : goal.invariant-loop-i

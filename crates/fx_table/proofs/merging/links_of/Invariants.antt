@@ -1,5 +1,4 @@
-use Rattle.std.proofs.Common.{◌≡◌}
-use Rattle.fx_table.specs.Flags.{links_alone}
+use Rattle.fx_table.proofs.Prelude.{◌≡◌, links_alone}
 use Rattle.fx_table.proofs.merging.links_of.Given as goal
 
 abbrev pub invariant-loop-line : goal.invariant-loop-line

@@ -1,10 +1,4 @@
-use Rattle.std.proofs.Common.{◌≡◌, IfOk, sym, ap, subst, ◌∙◌}
-use Rattle.fx_table.specs.Lines.{links_in, lines_in}
-use Rattle.fx_table.specs.Listed.{with_links, with_flags}
-use Rattle.fx_table.specs.Mapped.{mapped_of}
-use Rattle.fx_table.specs.Merges.{CanMerge}
-use Rattle.fx_table.specs.Shaped.{changes_of}
-use Rattle.fx_table.specs.Table.{links_among}
+use Rattle.fx_table.proofs.Prelude.{◌≡◌, IfOk, sym, ap, subst, ◌∙◌, links_in, lines_in, with_links, with_flags, mapped_of, CanMerge, changes_of, links_among}
 use Rattle.fx_table.proofs.Flagging.{flags_are, links_are, links_make, merge_flags}
 use Rattle.fx_table.proofs.Naming.{mapped_changes}
 use Rattle.fx_table.proofs.merging.merged.Goals as goal

@@ -1,8 +1,4 @@
-use Rattle.std.proofs.Common.{sym, ◌∙◌}
-use Rattle.std.proofs.lemmas.List.{map-id}
-use Rattle.std.proofs.lemmas.Iterator.Adapters.{YieldsList-from_vec}
-use Rattle.std.proofs.lemmas.Iterator.Consumers.{YieldsList-end}
-use Rattle.fx_table.specs.Lines.{links_in}
+use Rattle.fx_table.proofs.Prelude.{sym, ◌∙◌, map-id, YieldsList-from_vec, YieldsList-end, links_in}
 use Rattle.fx_table.proofs.Mixing.{made_reversed, merging_none, merging_more, merging_end}
 use Rattle.fx_table.proofs.merging.merged_links.Goals as goal
 

@@ -1,5 +1,4 @@
-use Rattle.fx_table.specs.Lines.{links_in}
-use Rattle.fx_table.specs.Merges.{MakeLinks}
+use Rattle.fx_table.proofs.Prelude.{links_in, MakeLinks}
 use Rattle.fx_table.proofs.Mixing.{IsMerging}
 use Rattle.fx_table.proofs.merging.merged_links.Given as goal
 

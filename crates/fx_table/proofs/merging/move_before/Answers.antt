@@ -1,5 +1,4 @@
-use Rattle.std.proofs.Common.{◌≡◌, ◌∙◌, sym, length, arith}
-use Rattle.std.proofs.lemmas.Grind.{common_steps}
+use Rattle.fx_table.proofs.Prelude.{◌≡◌, ◌∙◌, sym, length, arith, common_steps}
 use Rattle.fx_table.proofs.Mixing.{moves_none, moves_more, moves_stop, moves_end, less_is}
 use Rattle.fx_table.proofs.merging.move_before.Goals as goal
 

@@ -1,5 +1,4 @@
-use Rattle.std.proofs.Common.{length}
-use Rattle.fx_table.specs.Merges.{MovesLinks}
+use Rattle.fx_table.proofs.Prelude.{length, MovesLinks}
 use Rattle.fx_table.proofs.merging.move_before.Given as goal
 
 abbrev pub invariant-moving : goal.invariant-moving

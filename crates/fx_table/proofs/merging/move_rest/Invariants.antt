@@ -1,6 +1,4 @@
-use Rattle.std.proofs.Common.{◌≡◌, ◌++◌, map, length}
-use Rattle.fx_table.specs.Lines.{link_change}
-use Rattle.fx_table.specs.Merges.{MakeLinks, pending}
+use Rattle.fx_table.proofs.Prelude.{◌≡◌, ◌++◌, map, length, link_change, MakeLinks, pending}
 use Rattle.fx_table.proofs.merging.move_rest.Given as goal
 
 abbrev pub invariant-moving : goal.invariant-moving

@@ -1,6 +1,4 @@
-use Rattle.std.proofs.Common.{◌≡◌, length, arith}
-use Rattle.std.proofs.lemmas.Grind.{common_steps}
-use Rattle.fx_table.specs.Flags.{flag_change}
+use Rattle.fx_table.proofs.Prelude.{◌≡◌, length, arith, common_steps, flag_change}
 use Rattle.fx_table.proofs.Flagging.{flags_more}
 use Rattle.fx_table.proofs.merging.set_flags.Goals as goal
 

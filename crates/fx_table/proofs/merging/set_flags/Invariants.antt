@@ -1,5 +1,4 @@
-use Rattle.std.proofs.Common.{◌≡◌, ◌++◌, map, take, drop}
-use Rattle.fx_table.specs.Flags.{flag_change}
+use Rattle.fx_table.proofs.Prelude.{◌≡◌, ◌++◌, map, take, drop, flag_change}
 use Rattle.fx_table.proofs.merging.set_flags.Given as goal
 
 abbrev pub invariant-loop-i : goal.invariant-loop-i

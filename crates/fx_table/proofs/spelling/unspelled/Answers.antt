@@ -1,6 +1,4 @@
-use Rattle.std.proofs.Common.{drop, subst, arith, length-drop}
-use Rattle.std.proofs.lemmas.List.{take_rest}
-use Rattle.fx_table.specs.Unspells.{SpellsByte}
+use Rattle.fx_table.proofs.Prelude.{drop, subst, arith, length-drop, take_rest, SpellsByte}
 use Rattle.fx_table.proofs.Unspelled.{one_more}
 use Rattle.fx_table.proofs.spelling.unspelled.Goals as goal
 

@@ -1,5 +1,4 @@
-use Rattle.std.proofs.Common.{◌≡◌, ◌≤◌, ◌-◌, length, drop}
-use Rattle.fx_table.specs.TableSpelling.{unspelled}
+use Rattle.fx_table.proofs.Prelude.{◌≡◌, ◌≤◌, ◌-◌, length, drop, unspelled}
 use Rattle.fx_table.proofs.Unspelled.{joined}
 use Rattle.fx_table.proofs.spelling.unspelled.Given as goal
 

@@ -1,5 +1,4 @@
-use Rattle.std.proofs.Common.{sym, ap, ◌∙◌}
-use Rattle.fx_table.specs.Unspells.{flag_by}
+use Rattle.fx_table.proofs.Prelude.{sym, ap, ◌∙◌, flag_by}
 use Rattle.fx_table.proofs.table.flag_of.Goals as goal
 
 pub returns-in_default : goal.returns-in_default

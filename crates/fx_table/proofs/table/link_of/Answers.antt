@@ -1,7 +1,4 @@
-use Rattle.std.proofs.Common.{sym, ap, ◌∙◌}
-use Rattle.fx_store.specs.Faults.{read_link}
-use Rattle.fx_table.specs.TableSpelling.{unspelled}
-use Rattle.fx_table.specs.Unspells.{read_of, link_by}
+use Rattle.fx_table.proofs.Prelude.{sym, ap, ◌∙◌, read_link, unspelled, read_of, link_by}
 use Rattle.fx_table.proofs.table.link_of.Goals as goal
 
 pub returns-in_default : goal.returns-in_default
