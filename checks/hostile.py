@@ -13,11 +13,13 @@ import os
 import random
 import re
 import resource
+import shutil
 import signal
 import socket
 import stat
 import subprocess
 import sys
+import tempfile
 import threading
 import time
 from collections import Counter
@@ -788,10 +790,18 @@ PARTS = (
 
 
 def main() -> None:
-    """Does the parts, and tells how many tries each made."""
-    Stage.program = os.path.abspath(sys.argv[1])
+    """Does the parts, with a copy of the program that other users may run too."""
+    with tempfile.TemporaryDirectory(prefix="hostile-program-") as folder:
+        os.chmod(folder, 0o755)
+        Stage.program = shutil.copy(sys.argv[1], os.path.join(folder, "txforest"))
+        os.chmod(Stage.program, 0o755)
+        do_parts(sys.argv[2:])
+
+
+def do_parts(wanted: list[str]) -> None:
+    """Does the parts that are named, or all, and tells how many tries each made."""
     for part in PARTS:
-        if sys.argv[2:] and part.__name__ not in sys.argv[2:]:
+        if wanted and part.__name__ not in wanted:
             continue
         first, Stage.longest = Stage.tries, 0.0
         try:
