@@ -26,6 +26,7 @@ use Rattle.fx_command.proofs.Told.{if_some_map, if_some_both, some_and, if_told_
 use Rattle.fx_inputs.specs.Inputs.{HasInputs, HasBase}
 use Rattle.fx_inputs.specs.Reads.{ReadRow}
 use Rattle.fx_inputs.proofs.Readings.{inputs_steady}
+use Rattle.fx_inputs.proofs.Stages.{has_inputs, has_inputs_told}
 use Rattle.fx_command.specs.Out.{IsUnready}
 use Rattle.fx_words.specs.Job.{RunJob, JournalJob, Scheduled, shells_of}
 use Rattle.fx_run_command.specs.Outcome.{IsPrintedAs, IsTracedAs}
@@ -82,18 +83,15 @@ out_unready j host host' sink disk (status.BadJournal place) reads inputs cause 
 
 -- ---- a journal that is not started
 
-inputs_of : (t : Tree) (j : RunJob) (base : BaseTree) → HasBase t j.inputs base → HasInputs t j.inputs
-inputs_of t j base is = (((base.description, is.spec), (base.plan, is.scripts)), (base.loaded, is.folder))
-
 pub not_started : (j : JournalJob) (base : BaseTree) (there : Bool) (host : HostView) (sink : SinkView) (disk disk' : DiskView) (st : Status) → IfSome host.told (λ t. HasBase t j.run.inputs base) → IfSome host.told (λ t. IsReady t j.run.out there) → StartCause j.journal disk disk' st → JournalEnd j host host sink sink disk disk' st
 not_started j base there host sink disk disk' st begins free (holds told calm bytes) = (
   same host host sink (reads_none host),
   told,
   calm,
-  if_some_both (λ t. HasBase t j.run.inputs base) (λ t. IsReady t j.run.out there) _ host.told (λ t is free. (inputs_of t j.run base is, inr ((there, free), bytes))) begins free,
+  if_some_both (λ t. HasBase t j.run.inputs base) (λ t. IsReady t j.run.out there) _ host.told (λ t is free. (has_inputs t j.run.inputs base is, inr ((there, free), bytes))) begins free,
 )
 not_started j base there host sink disk disk' st begins free (fails cause) = inl (record {
-  inputs = if_some_map (λ t. HasBase t j.run.inputs base) (λ t. HasInputs t j.run.inputs) host.told (λ t is. inputs_of t j.run base is) begins;
+  inputs = has_inputs_told j.run.inputs base host.told begins;
   cause = inr (cause, if_some_map (λ t. IsReady t j.run.out there) (λ t. (there : Bool) × IsReady t j.run.out there) host.told (λ t free. (there, free)) free);
   same = same host host sink (reads_none host);
 })
@@ -186,7 +184,7 @@ module _ (j : JournalJob) (base : BaseTree) (there : Bool) (host host' : HostVie
       (λ t t' is part. inr (record { base = base; nodes = nodes; there = there; all = all_written t 0 is.0 grown; free = is.1; part = part })) both part
 
   no_folder : (t : Tree) → Begins t → LacksFolder t j.run.out there → CannotSave (run_command j.run) t
-  no_folder t is lacks = (inputs_of t j.run base is.0, inr (subst (λ b. IsReady t j.run.out b) lacks.0 is.1, lacks.1))
+  no_folder t is lacks = (has_inputs t j.run.inputs base is.0, inr (subst (λ b. IsReady t j.run.out b) lacks.0 is.1, lacks.1))
 
   unsaved_cause : SaveCause j.run.out there host host' save.WriteFault → CannotLeave j.run host host'
   unsaved_cause (inl fault) = inl fault
