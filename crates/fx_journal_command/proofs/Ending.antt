@@ -162,14 +162,19 @@ module _ (j : JournalJob) (base : BaseTree) (there : Bool) (host host' : HostVie
   last : nodes ≡ state base board.order (length board.order)
   last = λ i. state (had.traced.begun i) board.order (length board.order)
 
-  all_written : (t : Tree) (n : ℕ) → HasBase t j.run.inputs base → HasGrown (bytes n) sink sink' → HasWrittenAll t j.run base n nodes sink.written sink'.written
-  all_written t n is grown = record {
-    begins = is;
+  all_written : (t : Tree) (n : ℕ) (IsAtOut : Nodes → Type 0) → Begins t → HasGrown (bytes n) sink sink' → IsAtOut nodes → HasWrittenAll t j.run n IsAtOut sink.written sink'.written
+  all_written t n IsAtOut is grown left = record {
+    base = base;
+    nodes = nodes;
+    there = there;
+    begins = is.0;
+    free = is.1;
     machine = resting base board.order;
     bytes = bytes n;
     report = report_of base (shells_of j.run) started disk' sink mid board retries had n;
     front = refl;
     last = last;
+    left = left;
     written = grown;
   }
 
@@ -181,7 +186,7 @@ module _ (j : JournalJob) (base : BaseTree) (there : Bool) (host host' : HostVie
   partly part none =
       let grown = grown_with 0 (nothing_more text mid sink' none) in
       if_told_map (λ t t'. IsPartlySaved t t' (parts j.run.out) nodes) (IsLeft j.run sink.written sink'.written) Begins host.told host'.told
-      (λ t t' is part. inr (record { base = base; nodes = nodes; there = there; all = all_written t 0 is.0 grown; free = is.1; part = part })) both part
+      (λ t t' is part. inr (all_written t 0 (IsPartlySaved t t' (parts j.run.out)) is grown part)) both part
 
   no_folder : (t : Tree) → Begins t → LacksFolder t j.run.out there → CannotSave (run_command j.run) t
   no_folder t is lacks = (has_inputs t j.run.inputs base is.0, inr (subst (λ b. IsReady t j.run.out b) lacks.0 is.1, lacks.1))
@@ -194,7 +199,7 @@ module _ (j : JournalJob) (base : BaseTree) (there : Bool) (host host' : HostVie
   whole : (n : ℕ) → Saves j.run.out nodes host host' → HasGrown (take n text) mid sink' → IfTold host.told host'.told (IsLeftOrWhole j.run sink.written sink'.written)
   whole n saved grown =
       if_told_map (λ t t'. IsSaved t t' (parts j.run.out) nodes) (IsLeftOrWhole j.run sink.written sink'.written) Begins host.told host'.told
-      (λ t t' is saved. inr (record { base = base; nodes = nodes; there = there; count = n; all = all_written t n is.0 (grown_with n grown); free = is.1; saved = saved })) both saved
+      (λ t t' is saved. inr (n, all_written t n (IsSaved t t' (parts j.run.out)) is (grown_with n grown) saved)) both saved
 
   -- all is done
   abbrev output : List ℕ
