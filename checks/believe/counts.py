@@ -17,8 +17,9 @@ _SHARED = (
     "fx_command.Left.IsUnasked",
 )
 _RUN = (
-    "fx_run_command.Rows.RunRow",
-    "fx_run_command.Rows.RunAsks",
+    "fx_command.Table.CommandRow",
+    "fx_run_command.Rows.run_command",
+    "fx_run_command.Rows.LetsRun",
     "fx_run_command.Rows.IsProperRun",
 )
 
@@ -38,8 +39,9 @@ COMMANDS = (
     Command(
         "views",
         (
-            "fx_views_command.Rows.ViewsRow",
-            "fx_views_command.Rows.ViewsAsk",
+            "fx_command.Table.CommandRow",
+            "fx_views_command.Rows.views_command",
+            "fx_views_command.Rows.LetsViewsRun",
             "fx_views_command.Rows.IsProperViews",
         ),
     ),
@@ -48,7 +50,7 @@ COMMANDS = (
         (
             "fx_journal_command.Rows.JournalRow",
             "fx_journal_command.Rows.KeepsJournal",
-            "fx_journal_command.Rows.JournalAsks",
+            "fx_run_command.Rows.LetsRun",
             "fx_journal_command.Rows.IsProperJournal",
             "fx_durable::disk::Disk",
         ),
@@ -57,7 +59,7 @@ COMMANDS = (
         "recover",
         (
             "fx_recover_command.Rows.RecoverRow",
-            "fx_recover_command.Rows.RecoverAsks",
+            "fx_recover_command.Rows.LetsRecover",
             "fx_recover_command.Rows.IsProperRecover",
             "fx_durable::disk::Disk",
         ),
@@ -65,21 +67,27 @@ COMMANDS = (
     Command(
         "audit",
         (
-            "fx_audit_command.Rows.AuditRow",
-            "fx_audit_command.Rows.AuditAsks",
+            "fx_command.Query.QueryRow",
+            "fx_audit_command.Rows.audit_query",
+            "fx_audit_command.Rows.LetsAudit",
             "fx_audit_command.Rows.IsProperAudit",
         ),
     ),
     Command(
         "show",
-        ("fx_show.Rows.ShowRow", "fx_show.Rows.ShowAsks", "fx_show.Shows.IsProperShow"),
+        (
+            "fx_command.Query.QueryRow",
+            "fx_show.Rows.show_query",
+            "fx_show.Rows.LetsShow",
+            "fx_show.Shows.IsProperShow",
+        ),
     ),
     Command(
         "gen",
         (
             "fx_command.Table.CommandRow",
             "fx_large.GenRows.gen_making",
-            "fx_command.Out.WritesOut",
+            "fx_command.Out.LetsOut",
             "fx_command.Out.IsProperOut",
         ),
     ),
@@ -88,7 +96,7 @@ COMMANDS = (
         (
             "fx_command.Table.CommandRow",
             "fx_large.LargeRows.large_making",
-            "fx_command.Out.WritesOut",
+            "fx_command.Out.LetsOut",
             "fx_command.Out.IsProperOut",
         ),
     ),

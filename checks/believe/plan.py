@@ -227,22 +227,23 @@ SECTIONS = (
     ),
     Section(
         "The folder of a filestore",
-        "The folder has the directories as folders, the files, and a table of links and flags.",
-        ("fx_folder.Deep.folder_entry", "fx_folder.Folder.IsSaved"),
+        "The folder has the directories as folders, the files, and a table of links and flags. FOLDER"
+        " is that of the loaded filestore, which is whole and within the limits. An empty table may"
+        " stand for none.",
         (
+            "fx_folder.HasFolder.HasFolder",
+            "fx_folder.Deep.folder_entry",
+            "fx_folder.Folder.IsSaved",
+        ),
+        (
+            "fx_folder.HasFolder.HasFolder",
+            "fx_folder.LoadLaws.IsWithinLimits",
+            "fx_folder.HasFolder.StandsFor",
             "fx_folder.Deep.folder_entry",
             "fx_folder.Places.host_entry",
             "fx_table.Table.table_text",
             "fx_folder.Folder.IsSaved",
         ),
-    ),
-    Section(
-        "What a folder loads as",
-        "These need not be read. By the law `folders_are_what_they_load_as` a folder loads as a"
-        " filestore exactly if it is its folder, as the section above says. Only an empty table may"
-        " go.",
-        ("fx_folder.Loads.Loads",),
-        folds_laws=True,
     ),
     Section(
         "The words",
@@ -279,6 +280,13 @@ SECTIONS = (
         (WATCHED,),
     ),
     Section(
+        "What a folder loads as",
+        "These say when a folder is refused. By the law `folders_are_what_they_load_as` a folder that"
+        " loads is the folder of what it loads as, as said above, and no other folder loads so.",
+        ("fx_folder.Loads.Loads",),
+        folds_laws=True,
+    ),
+    Section(
         "Statuses 3 and 4: first faults",
         "These definitions say which texts and folders are refused, and for what.",
         ("fx_inputs.Inputs.IsFirstRefused", "fx_folder.Loads.IsRefused"),
@@ -289,8 +297,9 @@ SECTIONS = (
         "This is the table of all statuses of a command, with what `run`, `trace` and `watch` put into"
         " it.",
         (
-            "fx_run_command.Rows.RunRow",
-            "fx_run_command.Rows.RunAsks",
+            "fx_command.Table.CommandRow",
+            "fx_run_command.Rows.run_command",
+            "fx_run_command.Rows.LetsRun",
             "fx_run_command.Rows.IsProperRun",
         ),
         ("fx_command.Table.CommandRow", "fx_run_command.Rows.run_command"),
@@ -298,15 +307,20 @@ SECTIONS = (
     Section(
         "`show`",
         "It is printed whether the folder has a value by the description, and which.",
-        ("fx_show.Rows.ShowRow", "fx_show.Shows.IsProperShow", "fx_show.Rows.ShowAsks"),
+        (
+            "fx_command.Query.QueryRow",
+            "fx_show.Rows.show_query",
+            "fx_show.Rows.LetsShow",
+            "fx_show.Shows.IsProperShow",
+        ),
         ("fx_command.Query.QueryRow",),
     ),
     Section(
         "`views`",
         "A view is a transaction, run whole at one state of the order; it changes nothing.",
         (
-            "fx_views_command.Rows.ViewsRow",
-            "fx_views_command.Rows.ViewsAsk",
+            "fx_views_command.Rows.views_command",
+            "fx_views_command.Rows.LetsViewsRun",
             "fx_views_command.Rows.IsProperViews",
         ),
         ("fx_views.Views.IsView",),
@@ -316,8 +330,8 @@ SECTIONS = (
         "The verdict says whether a text is the report of a complete order, with retries that this"
         " order can have had; or it is the first fault.",
         (
-            "fx_audit_command.Rows.AuditRow",
-            "fx_audit_command.Rows.AuditAsks",
+            "fx_audit_command.Rows.audit_query",
+            "fx_audit_command.Rows.LetsAudit",
             "fx_audit_command.Rows.IsProperAudit",
         ),
         ("fx_audit.Audits.IsTrueReport",),
@@ -334,7 +348,6 @@ SECTIONS = (
         (
             "fx_journal_command.Rows.JournalRow",
             "fx_journal_command.Rows.KeepsJournal",
-            "fx_journal_command.Rows.JournalAsks",
             "fx_journal_command.Rows.IsProperJournal",
         ),
         ("fx_durable.Journal.reading", "fx_journaling.Kept.LeavesEither"),
@@ -344,7 +357,7 @@ SECTIONS = (
         "OUT holds the folder after the commits that a journal keeps.",
         (
             "fx_recover_command.Rows.RecoverRow",
-            "fx_recover_command.Rows.RecoverAsks",
+            "fx_recover_command.Rows.LetsRecover",
             "fx_recover_command.Rows.IsProperRecover",
         ),
     ),
@@ -355,7 +368,6 @@ SECTIONS = (
             "fx_large.GenRows.gen_making",
             "fx_command.Table.making_only",
             "fx_large.LargeRows.large_making",
-            "fx_command.Out.WritesOut",
         ),
     ),
     Section(

@@ -77,10 +77,6 @@ report_large j host host' text reads inputs read large sink = (
 
 -- ---- from one stage to the next
 
-pub has_inputs : (j : AuditJob) (base : BaseTree) (host : HostView) → IfSome host.told (λ t. HasBase t j.inputs base) → IfSome host.told (λ t. HasInputs t j.inputs)
-has_inputs j base host is =
-    if_some_map (λ t. HasBase t j.inputs base) (λ t. HasInputs t j.inputs) host.told (λ t is. (((base.description, is.spec), (base.plan, is.scripts)), (base.loaded, is.folder))) is
-
 auditing_of : (j : AuditJob) (base : BaseTree) (bytes : List ℕ) (v : Verdict) (output : List ℕ) (host : HostView) → IfSome host.told (λ t. HasBase t j.inputs base) → IfSome host.told (λ t. HasReport t j bytes) → IsVerdictOn base bytes v → (v ≡ verdict.Yes) ↔ IsTrueReport base bytes → output ≡ verdict_line v → IfSome host.told (λ t. IsAuditing t j output)
 auditing_of j base bytes v output host begins report said exact printed =
     if_some_both (λ t. HasBase t j.inputs base) (λ t. HasReport t j bytes) (λ t. IsAuditing t j output) host.told

@@ -2,6 +2,7 @@
 use Rattle.std.specs.Prelude.{◌≡◌, ◌⊎◌, ℕ, ◌+◌, true, false, List, [], ◌∷◌, length}
 use Rattle.fx_store.specs.Whole.{Nodes}
 use Rattle.fx_outside.specs.Tree.{Tree, is_file_at, bytes_at, is_folder_at}
+use Rattle.fx_folder.specs.HasFolder.{HasFolder}
 use Rattle.fx_folder.specs.Loads.{Loads}
 use Rattle.fx_spec.specs.SpecTree.{SpecTree}
 use Rattle.fx_spec.specs.CommandTree.{CommandTree}
@@ -34,9 +35,8 @@ IsOnlyScript t path before txns = (others : List (List CommandTree)) → Scripts
 -- the files at the paths stand for the scripts of a plan, one after another
 abbrev pub HasScripts : Tree → ℕ → List (List ℕ) → List (List (List CommandTree)) → Type 0
 HasScripts t before [] [] = Unit {0}
-HasScripts t before [] (txns ∷ plan) = ⊥
-HasScripts t before (path ∷ paths) [] = ⊥
 HasScripts t before (path ∷ paths) (txns ∷ plan) = HasScript t path before txns × HasScripts t (before + length txns) paths plan
+HasScripts t before _ _ = ⊥
 
 -- a script that is read, after which others follow
 pub record HasMoreScripts (t : Tree) (path : List ℕ) (before : ℕ) (txns : List (List CommandTree)) : Type 0 where
@@ -56,11 +56,11 @@ IsScriptReached t path before = Unit {0}
 abbrev pub LacksFile : Tree → List ℕ → ℕ → Type 0
 LacksFile t path before = is_file_at t path ≡ false
 
--- what a run begins with is what the host's texts and folder stand for
+-- what a run begins with is what the host's texts stand for, and the filestore whose folder is there
 pub record HasBase (t : Tree) (inputs : Inputs) (base : BaseTree) : Type 0 where
   pub spec : HasSpec t inputs base.description
   pub scripts : HasScripts t 0 inputs.scripts base.plan
-  pub folder : Loads t inputs.folder base.loaded
+  pub folder : HasFolder t inputs.folder base.loaded
 
 -- they stand for nothing else
 abbrev pub IsOnlySpec : Tree → Inputs → SpecTree → Type 0

@@ -1,7 +1,7 @@
 //! The stages that read: the description, the scripts and the folder.
 ghost use Rattle.std.specs.Prelude.{◌≡◌, length, IfOk, IfErr, IfSome};
 ghost use Rattle.fx_outside.specs.Host.{ReadsOnly};
-ghost use Rattle.fx_folder.specs.Loads.{Loads};
+ghost use Rattle.fx_folder.specs.HasFolder.{HasFolder};
 ghost use Rattle.fx_spec.specs.Bases.{base_tree};
 ghost use Rattle.fx_words.specs.JobOf.{asked_inputs, AreInputs};
 ghost use Rattle.fx_inputs.specs.Inputs.{HasSpec, HasScripts, AreOnlyScripts, HasSomeSpec, HasTexts, HasBase, IsOnlyBase, HasEachScript};
@@ -47,13 +47,15 @@ fn read_scripts<R: Threads, H: Host>(
 fn read_folder<H: Host>(alloc: Global, inputs: &Inputs, host: &mut H) -> Result<Filestore, Status>
     requires { IfSome (H.view host.old).told (λ t. HasTexts t (asked_inputs inputs.now)) }
     ensures loaded { IfOk result (λ s. IfSome (H.view host.old).told
-        (λ t. Loads t (asked_inputs inputs.now).folder s.nodes)) }
+        (λ t. HasFolder t (asked_inputs inputs.now).folder s.nodes)) }
     ensures same { ReadsOnly (H.view host.old) (H.view host.new) }
     ensures fit { InputsAsk (asked_inputs inputs.now) (H.view host.old) (H.view host.new) }
     ensures ends { IfErr result
         (ReadRow (asked_inputs inputs.now) (H.view host.old) (H.view host.new)) }
 {
     let store = load(alloc, host, inputs.folder)?;
+    // By its places the filestore is whole.
+    let _whole = store.places();
     Ok(store)
 }
 

@@ -26,6 +26,7 @@ use Rattle.fx_command.proofs.Told.{if_some_map, if_some_both, some_and, if_told_
 use Rattle.fx_inputs.specs.Inputs.{HasInputs, HasBase}
 use Rattle.fx_inputs.specs.Reads.{ReadRow}
 use Rattle.fx_inputs.proofs.Readings.{inputs_steady}
+use Rattle.fx_inputs.proofs.Stages.{has_inputs, has_inputs_told}
 use Rattle.fx_command.specs.Out.{IsUnready}
 use Rattle.fx_words.specs.Job.{RunJob, JournalJob, Scheduled, shells_of}
 use Rattle.fx_run_command.specs.Outcome.{IsPrintedAs, IsTracedAs}
@@ -82,18 +83,15 @@ out_unready j host host' sink disk (status.BadJournal place) reads inputs cause 
 
 -- ---- a journal that is not started
 
-inputs_of : (t : Tree) (j : RunJob) (base : BaseTree) → HasBase t j.inputs base → HasInputs t j.inputs
-inputs_of t j base is = (((base.description, is.spec), (base.plan, is.scripts)), (base.loaded, is.folder))
-
 pub not_started : (j : JournalJob) (base : BaseTree) (there : Bool) (host : HostView) (sink : SinkView) (disk disk' : DiskView) (st : Status) → IfSome host.told (λ t. HasBase t j.run.inputs base) → IfSome host.told (λ t. IsReady t j.run.out there) → StartCause j.journal disk disk' st → JournalEnd j host host sink sink disk disk' st
 not_started j base there host sink disk disk' st begins free (holds told calm bytes) = (
   same host host sink (reads_none host),
   told,
   calm,
-  if_some_both (λ t. HasBase t j.run.inputs base) (λ t. IsReady t j.run.out there) _ host.told (λ t is free. (inputs_of t j.run base is, inr ((there, free), bytes))) begins free,
+  if_some_both (λ t. HasBase t j.run.inputs base) (λ t. IsReady t j.run.out there) _ host.told (λ t is free. (has_inputs t j.run.inputs base is, inr ((there, free), bytes))) begins free,
 )
 not_started j base there host sink disk disk' st begins free (fails cause) = inl (record {
-  inputs = if_some_map (λ t. HasBase t j.run.inputs base) (λ t. HasInputs t j.run.inputs) host.told (λ t is. inputs_of t j.run base is) begins;
+  inputs = has_inputs_told j.run.inputs base host.told begins;
   cause = inr (cause, if_some_map (λ t. IsReady t j.run.out there) (λ t. (there : Bool) × IsReady t j.run.out there) host.told (λ t free. (there, free)) free);
   same = same host host sink (reads_none host);
 })
@@ -164,14 +162,19 @@ module _ (j : JournalJob) (base : BaseTree) (there : Bool) (host host' : HostVie
   last : nodes ≡ state base board.order (length board.order)
   last = λ i. state (had.traced.begun i) board.order (length board.order)
 
-  all_written : (t : Tree) (n : ℕ) → HasBase t j.run.inputs base → HasGrown (bytes n) sink sink' → HasWrittenAll t j.run base n nodes sink.written sink'.written
-  all_written t n is grown = record {
-    begins = is;
+  all_written : (t : Tree) (n : ℕ) (IsAtOut : Nodes → Type 0) → Begins t → HasGrown (bytes n) sink sink' → IsAtOut nodes → HasWrittenAll t j.run n IsAtOut sink.written sink'.written
+  all_written t n IsAtOut is grown left = record {
+    base = base;
+    nodes = nodes;
+    there = there;
+    begins = is.0;
+    free = is.1;
     machine = resting base board.order;
     bytes = bytes n;
     report = report_of base (shells_of j.run) started disk' sink mid board retries had n;
     front = refl;
     last = last;
+    left = left;
     written = grown;
   }
 
@@ -183,10 +186,10 @@ module _ (j : JournalJob) (base : BaseTree) (there : Bool) (host host' : HostVie
   partly part none =
       let grown = grown_with 0 (nothing_more text mid sink' none) in
       if_told_map (λ t t'. IsPartlySaved t t' (parts j.run.out) nodes) (IsLeft j.run sink.written sink'.written) Begins host.told host'.told
-      (λ t t' is part. inr (record { base = base; nodes = nodes; there = there; all = all_written t 0 is.0 grown; free = is.1; part = part })) both part
+      (λ t t' is part. inr (all_written t 0 (IsPartlySaved t t' (parts j.run.out)) is grown part)) both part
 
   no_folder : (t : Tree) → Begins t → LacksFolder t j.run.out there → CannotSave (run_command j.run) t
-  no_folder t is lacks = (inputs_of t j.run base is.0, inr (subst (λ b. IsReady t j.run.out b) lacks.0 is.1, lacks.1))
+  no_folder t is lacks = (has_inputs t j.run.inputs base is.0, inr (subst (λ b. IsReady t j.run.out b) lacks.0 is.1, lacks.1))
 
   unsaved_cause : SaveCause j.run.out there host host' save.WriteFault → CannotLeave j.run host host'
   unsaved_cause (inl fault) = inl fault
@@ -196,7 +199,7 @@ module _ (j : JournalJob) (base : BaseTree) (there : Bool) (host host' : HostVie
   whole : (n : ℕ) → Saves j.run.out nodes host host' → HasGrown (take n text) mid sink' → IfTold host.told host'.told (IsLeftOrWhole j.run sink.written sink'.written)
   whole n saved grown =
       if_told_map (λ t t'. IsSaved t t' (parts j.run.out) nodes) (IsLeftOrWhole j.run sink.written sink'.written) Begins host.told host'.told
-      (λ t t' is saved. inr (record { base = base; nodes = nodes; there = there; count = n; all = all_written t n is.0 (grown_with n grown); free = is.1; saved = saved })) both saved
+      (λ t t' is saved. inr (n, all_written t n (IsSaved t t' (parts j.run.out)) is (grown_with n grown) saved)) both saved
 
   -- all is done
   abbrev output : List ℕ

@@ -40,34 +40,28 @@ pub record IsStoppedAtDisk (t t' : Tree) (j : RunJob) (before after : Option (Li
   pub stopped : IsStoppedRun t t' j before after
   pub settled : IsBeforeSettled stopped.base (shells_of j) stopped.events.events stopped.machine stopped.events.rest
 
--- all events of a run are written, and a front of its report
-pub record HasWrittenAll (t : Tree) (j : RunJob) (base : BaseTree) (report_length : ℕ) (nodes : Nodes) (before after : Option (List ℕ)) : Type 0 where
+-- all events of a run are written, and a front of its report of this length; and so much of the last filestore's folder is at OUT
+pub record HasWrittenAll (t : Tree) (j : RunJob) (report_length : ℕ) (IsAtOut : Nodes → Type 0) (before after : Option (List ℕ)) : Type 0 where
+  pub base : BaseTree
+  pub nodes : Nodes
+  pub there : Bool
   pub begins : HasBase t j.inputs base
+  pub free : IsReady t j.out there
   pub machine : Machine
   pub bytes : List ℕ
   pub report : HasWrittenReport base (shells_of j) machine bytes
   pub front : report.count ≡ report_length
   pub last : nodes ≡ state base report.order (length report.order)
+  pub left : IsAtOut nodes
   pub written : IfSome before (λ w. after ≡ Some (w ++ bytes))
 
 -- all events are written and no byte of the report, and OUT holds a part of the last filestore's folder at most
-pub record IsPartlyLeft (t t' : Tree) (j : RunJob) (before after : Option (List ℕ)) : Type 0 where
-  pub base : BaseTree
-  pub nodes : Nodes
-  pub there : Bool
-  pub all : HasWrittenAll t j base 0 nodes before after
-  pub free : IsReady t j.out there
-  pub part : IsPartlySaved t t' (parts j.out) nodes
+abbrev pub IsPartlyLeft : Tree → Tree → RunJob → Option (List ℕ) → Option (List ℕ) → Type 0
+IsPartlyLeft t t' j before after = HasWrittenAll t j 0 (IsPartlySaved t t' (parts j.out)) before after
 
 -- all events and a front of the report are written, and OUT is whole
-pub record IsWholeLeft (t t' : Tree) (j : RunJob) (before after : Option (List ℕ)) : Type 0 where
-  pub base : BaseTree
-  pub nodes : Nodes
-  pub there : Bool
-  pub count : ℕ
-  pub all : HasWrittenAll t j base count nodes before after
-  pub free : IsReady t j.out there
-  pub saved : IsSaved t t' (parts j.out) nodes
+abbrev pub IsWholeLeft : Tree → Tree → RunJob → Option (List ℕ) → Option (List ℕ) → Type 0
+IsWholeLeft t t' j before after = (count : ℕ) × HasWrittenAll t j count (IsSaved t t' (parts j.out)) before after
 
 -- what is left of a run that ends before a byte of its report is written
 abbrev pub IsLeft : RunJob → Option (List ℕ) → Option (List ℕ) → Tree → Tree → Type 0
@@ -122,7 +116,6 @@ HoldsBytes path disk = TellsAt disk path × IfSome disk.told (λ file. 0 < lengt
 -- how `journal` ends
 abbrev pub JournalEnd : JournalJob → HostView → HostView → SinkView → SinkView → DiskView → DiskView → Status → Type 0
 JournalEnd j host host' sink sink' disk disk' status.Done = HasEmptyJournal j disk × (disk'.faults ≡ disk.faults) × Grows sink sink' × IfTold host.told host'.told (λ t t'. IsDone (run_making j.run) t t' sink.written sink'.written)
-JournalEnd j host host' sink sink' disk disk' status.Usage = ⊥
 JournalEnd j host host' sink sink' disk disk' (status.TextRefused word cause) = IsSame host host' sink sink' × (disk' ≡ disk) × (inputs_reading j.run.inputs).refused host word cause
 JournalEnd j host host' sink sink' disk disk' (status.FolderRefused cause) = IsSame host host' sink sink' × (disk' ≡ disk) × (inputs_reading j.run.inputs).unloaded host cause
 JournalEnd j host host' sink sink' disk disk' status.ReadFault = IsSame host host' sink sink' × (disk' ≡ disk) × (inputs_reading j.run.inputs).failed host host'
@@ -130,7 +123,7 @@ JournalEnd j host host' sink sink' disk disk' status.NotEmpty =
     IsSame host host' sink sink' × IsAsTold disk disk' × (disk'.faults ≡ disk.faults) × IfSome host.told (λ t. HasInputs t j.run.inputs × (IsTaken t j.run.out ⊎ (((there : Bool) × IsReady t j.run.out there) × HoldsBytes j.journal disk)))
 JournalEnd j host host' sink sink' disk disk' status.WriteFault = IsUnbegun j host host' sink sink' disk disk' ⊎ IsBrokenOff j host host' sink sink' disk disk'
 JournalEnd j host host' sink sink' disk disk' status.NoMemory = HasNoMemory j host host' sink sink' disk disk'
-JournalEnd j host host' sink sink' disk disk' (status.BadJournal place) = ⊥
+JournalEnd j host host' sink sink' disk disk' _ = ⊥
 
 -- the table for `journal`: however it ends, a file is chosen before anything is asked of the disk, and no path but JOURNAL on a
 -- disk whose told file is there

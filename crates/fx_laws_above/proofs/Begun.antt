@@ -1,10 +1,7 @@
 -- The base of a run is one, and its report tells the rest.
-use Rattle.std.proofs.Common.{◌≡◌, ℕ, ◌+◌, refl, ap, sym, subst, ◌∙◌, List, [], ◌∷◌, length, Ok, Err}
-use Rattle.std.specs.Prelude.{Result}
-use Rattle.fx_store.specs.Whole.{Nodes}
-use Rattle.fx_table.specs.declared.fault.FolderCause.{FolderCause}
+use Rattle.std.proofs.Common.{◌≡◌, ℕ, ◌+◌, refl, ap, sym, subst, ◌∙◌, List, [], ◌∷◌, length}
 use Rattle.fx_outside.specs.Tree.{Tree, bytes_at}
-use Rattle.fx_folder.specs.Loads.{loads}
+use Rattle.fx_folder.proofs.FolderLoads.{one_folder}
 use Rattle.fx_spec.specs.CommandTree.{CommandTree}
 use Rattle.fx_spec.specs.SpecTree.{SpecTree}
 use Rattle.fx_spec.specs.Written.{text_tree}
@@ -31,15 +28,11 @@ one_plan t before (path ∷ paths) (x ∷ p) (y ∷ q) a b =
     let rest : p ≡ q = one_plan t (before + length x) paths p q a.1 (subst (λ z. HasScripts t (before + length z) paths q) (sym same) b.1) in
     (λ i. same i ∷ rest i)
 
-given : (x : Result Nodes FolderCause) (m n : Nodes) → x ≡ Ok m → x ≡ Ok n → m ≡ n
-given (Ok k) m n a b = let first : k ≡ m = cc in let second : k ≡ n = cc in sym first ∙ second
-given (Err f) m n a b = cc
-
 pub one_base : OneBase
 one_base t inputs a b x y =
     let description = one_spec t inputs a.description b.description x.spec y.spec in
     let plan = one_plan t 0 inputs.scripts a.plan b.plan x.scripts y.scripts in
-    let loaded = given (loads t inputs.folder) a.loaded b.loaded x.folder.1 y.folder.1 in
+    let loaded = one_folder t inputs.folder a.loaded b.loaded x.folder y.folder in
     (λ i. record { description = description i; plan = plan i; loaded = loaded i })
 
 pub reports_tell_the_state : ReportsTellTheState

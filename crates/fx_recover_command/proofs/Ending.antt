@@ -21,7 +21,7 @@ use Rattle.fx_inputs.specs.Reads.{HasReadFault, ReadRow}
 use Rattle.fx_inputs.specs.Readings.{inputs_reading}
 use Rattle.fx_inputs.proofs.ReadRows.{read_fault_back}
 use Rattle.fx_inputs.proofs.Readings.{inputs_unread, inputs_steady}
-use Rattle.fx_inputs.proofs.Stages.{then_told}
+use Rattle.fx_inputs.proofs.Stages.{then_told, has_inputs_told}
 use Rattle.fx_words.specs.Job.{RecoverJob}
 use Rattle.fx_durable.specs.Disk.{DiskView}
 use Rattle.fx_durable.specs.Journal.{Spells}
@@ -66,17 +66,13 @@ module _ (j : RecoverJob) (disk disk' : DiskView) where
       failed (inl fault) = inl (inl fault)
       failed (inr none) = inr none
 
-  has_inputs : (base : BaseTree) (host : HostView) → IfSome host.told (λ t. HasBase t j.inputs base) → IfSome host.told (λ t. HasInputs t j.inputs)
-  has_inputs base host begins =
-      if_some_map (λ t. HasBase t j.inputs base) (λ t. HasInputs t j.inputs) host.told (λ t is. (((base.description, is.spec), (base.plan, is.scripts)), (base.loaded, is.folder))) begins
-
   -- the journal is not read, or spells no legal order
   order_ends : (host host' : HostView) (base : BaseTree) (st : Status) → IfSome host.told (λ t. HasBase t j.inputs base) → IfSome host.told (λ t. IsOnlyBase t j.inputs base) → OrderCause j.journal base disk disk' st → ReadEnds (recover_reading j disk disk') host host' st
   order_ends host host' base status.Done begins only cause = absurd cause
   order_ends host host' base status.Usage begins only cause = absurd cause
   order_ends host host' base (status.TextRefused word why) begins only cause = absurd cause
   order_ends host host' base (status.FolderRefused why) begins only cause = absurd cause
-  order_ends host host' base status.ReadFault begins only cause = inl (inr (cause, has_inputs base host begins))
+  order_ends host host' base status.ReadFault begins only cause = inl (inr (cause, has_inputs_told j.inputs base host.told begins))
   order_ends host host' base status.NotEmpty begins only cause = absurd cause
   order_ends host host' base status.WriteFault begins only cause = absurd cause
   order_ends host host' base status.NoMemory begins only cause = tt

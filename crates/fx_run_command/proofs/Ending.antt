@@ -13,6 +13,7 @@ use Rattle.fx_command.proofs.Tables as tables
 use Rattle.fx_inputs.specs.Inputs.{HasInputs}
 use Rattle.fx_inputs.specs.Reads.{ReadRow}
 use Rattle.fx_inputs.proofs.Readings.{inputs_unread, inputs_steady}
+use Rattle.fx_inputs.proofs.Stages.{has_inputs}
 use Rattle.fx_run_command.specs.Outcome.{IsOutcome}
 use Rattle.fx_run_command.specs.Rows.{run_making, run_command, RunRow}
 use Rattle.fx_words.specs.Job.{RunJob}
@@ -33,7 +34,7 @@ pub row_back : (j : RunJob) (a b c : HostView) (sink sink' : SinkView) (st : Sta
 row_back j = tables.row_back (run_command j) (inputs_steady j.inputs)
 
 inputs_of : (t : Tree) (j : RunJob) (nodes : Nodes) (output : List ℕ) → IsOutcome t j nodes output → HasInputs t j.inputs
-inputs_of t j nodes output is = (((is.base.description, is.begins.spec), (is.base.plan, is.begins.scripts)), (is.base.loaded, is.begins.folder))
+inputs_of t j nodes output is = has_inputs t j.inputs is.base is.begins
 
 pub left : (j : RunJob) (nodes : Nodes) (output : List ℕ) (there : Bool) (host host' : HostView) (sink sink' : SinkView) (st : Status) → IfSome host.told (λ t. IsComing (run_making j) t (nodes, output) there) → SaveEnd j.out there nodes output host host' sink sink' st → RunRow j host host' sink sink' st
 left j nodes output there host host' sink sink' st is end =

@@ -1,30 +1,20 @@
 -- What a run comes to: the output, and the last filestore.
-use Rattle.std.specs.Prelude.{◌≡◌, ℕ, ◌<◌, List, [], ◌++◌, All, map, length}
+use Rattle.std.specs.Prelude.{◌≡◌, ℕ, ◌<◌, List, ◌++◌, All, map, length}
 use Rattle.fx_store.specs.Whole.{Nodes}
 use Rattle.fx_outside.specs.Tree.{Tree}
 use Rattle.fx_spec.specs.Plans.{Turn}
 use Rattle.fx_spec.specs.Order.{BaseTree, IsComplete, RetriesOk, state}
-use Rattle.fx_machine.specs.declared.event.Event.{Event}
 use Rattle.fx_machine.specs.declared.retry.Retry.{Retry}
-use Rattle.fx_machine.specs.Machine.{Run, resting}
-use Rattle.fx_machine.specs.Tried.{retries_of, retry_tree}
-use Rattle.fx_machine.specs.Turns.{FollowsSchedule}
+use Rattle.fx_machine.specs.Tried.{retry_tree}
 use Rattle.fx_report.specs.Entries.{report}
 use Rattle.fx_report.specs.Events.{lines}
-use Rattle.fx_sched.specs.Named.{NameConflicts}
-use Rattle.fx_watched.specs.Outcome.{IsWatchedAs}
+use Rattle.fx_watched.specs.Outcome.{IsTracedBy, IsWatchedAs}
 use Rattle.fx_words.specs.Job.{RunJob, Mode, Plain, Scheduled, Watched}
 use Rattle.fx_inputs.specs.Inputs.{HasBase}
 
--- the events lead from the empty order to this one by the schedule's turns, each conflict names the least path that was changed
--- and the last entry that changed it, the retries are the conflicts by shell, and the events are printed before the report
-pub record IsTracedAs (base : BaseTree) (schedule : List ℕ) (order : List Turn) (retries : List Retry) (output : List ℕ) : Type 0 where
-  pub events : List Event
-  pub run : Run base (resting base []) events (resting base order)
-  pub turns : FollowsSchedule base schedule events
-  pub named : NameConflicts base (resting base []) events
-  pub conflicts : retries ≡ retries_of base events
-  pub printed : output ≡ lines events ++ report base order retries
+-- the events of a run by the schedule are printed before the report, a line for each
+abbrev pub IsTracedAs : BaseTree → List ℕ → List Turn → List Retry → List ℕ → Type 0
+IsTracedAs base schedule order retries output = IsTracedBy lines base schedule order retries output
 
 -- there is a schedule of the plan's shells by which `trace` may print this behind the lines of its events, of a run to the same order
 abbrev pub IsBehindSomeTrace : BaseTree → List Turn → List Retry → List ℕ → Type 0

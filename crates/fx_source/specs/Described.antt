@@ -2,17 +2,15 @@
 use Rattle.std.specs.Prelude.{◌≡◌, ℕ, List, Err}
 use Rattle.fx_check.specs.Checked.{checked_text}
 use Rattle.fx_check.specs.Faults.{Fault}
-use Rattle.fx_expr.specs.Views.{shape_tree}
 use Rattle.fx_grammar.specs.Refused.{IsRefusedDescription}
 use Rattle.fx_grammar.specs.Texts as texts
-use Rattle.fx_parse.specs.declared.fault.ParseFault.TheVariants as parse
 use Rattle.fx_spec.specs.SpecTree.{SpecTree}
 use Rattle.fx_spec.specs.WellShaped.{IsChecked}
 use Rattle.fx_spec.specs.Written.{TextTree, text_tree}
 use Rattle.fx_source.specs.declared.fault.SourceFault.{SourceFault}
 use Rattle.fx_source.specs.declared.fault.SourceFault.TheVariants as refusal
 use Rattle.fx_command.specs.declared.status.TextFault.{TextFault}
-use Rattle.fx_command.specs.declared.status.TextFault.TheVariants as fault
+use Rattle.fx_source.specs.Causes.{IsCause}
 
 -- the text stands for a description, whose names and shapes fit and which means this
 pub record Describes (text : List ℕ) (spec : SpecTree) : Type 0 where
@@ -30,14 +28,7 @@ pub record HasDescriptionFault (text : List ℕ) (first : Fault) : Type 0 where
 -- the first cause for which the text is refused: its length comes first, then its tokens, then its form, then names and
 -- shapes
 abbrev pub HasDescriptionCause : List ℕ → TextFault → Type 0
-HasDescriptionCause text fault.TooLarge = IsRefusedDescription text parse.TooLarge
-HasDescriptionCause text (fault.BadToken place) = IsRefusedDescription text (parse.BadToken place)
-HasDescriptionCause text (fault.Unexpected place) = IsRefusedDescription text (parse.Unexpected place)
-HasDescriptionCause text (fault.TooNested place) = IsRefusedDescription text (parse.TooNested place)
-HasDescriptionCause text (fault.Unknown word) = HasDescriptionFault text (Fault.unknown word)
-HasDescriptionCause text (fault.TypeDiffers expected found) = HasDescriptionFault text (Fault.differs (shape_tree expected) (shape_tree found))
-HasDescriptionCause text (fault.Repeated word) = HasDescriptionFault text (Fault.repeated word)
-HasDescriptionCause text fault.TooMany = HasDescriptionFault text Fault.too_many
+HasDescriptionCause text cause = IsCause (IsRefusedDescription text) (HasDescriptionFault text) cause
 
 -- the text describes nothing, for this cause
 pub record IsRefusedFor (text : List ℕ) (first : TextFault) : Type 0 where

@@ -1,4 +1,5 @@
 pub mod Ahead
+pub mod Causes
 pub mod Described
 pub mod Faults
 pub mod Files

@@ -61,14 +61,7 @@ unread_row (Recover j) host sink disk = (refl, unasked j.journal disk, inl refl,
 unread_row (Views j) host sink disk = viewing.no_memory j host host (reads_none host) sink
 
 pub unread_fit : (j : Job) (host : HostView) → AsksInside j host host
-unread_fit (Run j) host = λ fit. refl
-unread_fit (Show j) host = λ fit. refl
-unread_fit (Gen j) host = λ fit. refl
-unread_fit (Large j) host = λ fit. refl
-unread_fit (Audit j) host = λ fit. refl
-unread_fit (Journal j) host = λ fit. refl
-unread_fit (Recover j) host = λ fit. refl
-unread_fit (Views j) host = λ fit. refl
+unread_fit j host = λ fit. refl
 
 pub unread_disk : (j : Job) (disk : DiskView) → LeavesDisk j disk disk
 unread_disk (Run j) disk = refl

@@ -12,6 +12,7 @@ use Rattle.fx_command.specs.Table.{CommandEndsAs, IsComing}
 use Rattle.fx_command.proofs.Tables as tables
 use Rattle.fx_inputs.specs.Views.{HasViewsInputs, ViewsReadRow}
 use Rattle.fx_inputs.proofs.Readings.{views_inputs_unread, views_steady}
+use Rattle.fx_inputs.proofs.Stages.{has_inputs}
 use Rattle.fx_views_command.specs.Outcome.{IsViewsOutcome}
 use Rattle.fx_views_command.specs.Rows.{views_making, views_command, ViewsRow}
 use Rattle.fx_words.specs.Job.{ViewsJob}
@@ -32,10 +33,7 @@ pub row_back : (j : ViewsJob) (a b c : HostView) (sink sink' : SinkView) (st : S
 row_back j = tables.row_back (views_command j) (views_steady j)
 
 inputs_of : (t : Tree) (j : ViewsJob) (nodes : Nodes) (output : List ℕ) → IsViewsOutcome t j nodes output → HasViewsInputs t j
-inputs_of t j nodes output is = (
-  ((is.base.description, is.begins.spec), (is.views, is.read)),
-  (((is.base.description, is.begins.spec), (is.base.plan, is.begins.scripts)), (is.base.loaded, is.begins.folder)),
-)
+inputs_of t j nodes output is = (((is.base.description, is.begins.spec), (is.views, is.read)), has_inputs t j.inputs is.base is.begins)
 
 pub left : (j : ViewsJob) (nodes : Nodes) (output : List ℕ) (there : Bool) (host host' : HostView) (sink sink' : SinkView) (st : Status) → IfSome host.told (λ t. IsComing (views_making j) t (nodes, output) there) → SaveEnd j.out there nodes output host host' sink sink' st → ViewsRow j host host' sink sink' st
 left j nodes output there host host' sink sink' st is end =

@@ -8,6 +8,7 @@ use Rattle.fx_spec.specs.Order.{BaseTree}
 use Rattle.fx_spec.specs.Plans.{script_of}
 use Rattle.fx_words.specs.Job.{ViewsJob}
 use Rattle.fx_inputs.specs.Views.{HasBases, HasViewsInputs}
+use Rattle.fx_inputs.proofs.Stages as inputs
 use Rattle.fx_inputs.proofs.Stages.{then_told}
 use Rattle.fx_command.specs.Table.{IsComing}
 use Rattle.fx_command.proofs.Told.{if_some_both, if_some_map}
@@ -15,10 +16,7 @@ use Rattle.fx_views_command.specs.Answers.{IsViewsRunFrom}
 use Rattle.fx_views_command.specs.Rows.{views_making}
 
 has_inputs : (t : Tree) (j : ViewsJob) (base views : BaseTree) → HasBases t j base views → HasViewsInputs t j
-has_inputs t j base views is = (
-  ((base.description, is.begins.spec), (script_of views.plan 0, is.alone)),
-  (((base.description, is.begins.spec), (base.plan, is.begins.scripts)), (base.loaded, is.begins.folder)),
-)
+has_inputs t j base views is = (((base.description, is.begins.spec), (script_of views.plan 0, is.alone)), inputs.has_inputs t j.inputs base is.begins)
 
 pub inputs_read : (j : ViewsJob) (base views : BaseTree) (a b : HostView) → ReadsOnly a b → IfSome a.told (λ t. HasBases t j base views) → IfSome b.told (λ t. HasViewsInputs t j)
 inputs_read j base views a b reads is =

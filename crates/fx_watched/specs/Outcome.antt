@@ -13,15 +13,19 @@ use Rattle.fx_sched.specs.Named.{NameConflicts}
 use Rattle.fx_watched.specs.Lines.{watched_lines}
 
 -- the events lead from the empty order to this one by the schedule's turns, each conflict names the least path that was changed and
--- the last entry that changed it, and the retries are the conflicts by shell. Before the report the events are printed, and whether
--- there is a value: first of the loaded filestore, and behind each settled event of the state after its entry.
-pub record IsWatchedAs (base : BaseTree) (schedule : List ℕ) (order : List Turn) (retries : List Retry) (output : List ℕ) : Type 0 where
+-- the last entry that changed it, the retries are the conflicts by shell, and this is written of the events before the report
+pub record IsTracedBy (written : List Event → List ℕ) (base : BaseTree) (schedule : List ℕ) (order : List Turn) (retries : List Retry) (output : List ℕ) : Type 0 where
   pub events : List Event
   pub run : Run base (resting base []) events (resting base order)
   pub turns : FollowsSchedule base schedule events
   pub named : NameConflicts base (resting base []) events
   pub conflicts : retries ≡ retries_of base events
-  pub printed : output ≡ watched_lines base order events ++ report base order retries
+  pub printed : output ≡ written events ++ report base order retries
+
+-- of the events themselves and whether there is a value: first of the loaded filestore, and behind each settled event of the state
+-- after its entry
+abbrev pub IsWatchedAs : BaseTree → List ℕ → List Turn → List Retry → List ℕ → Type 0
+IsWatchedAs base schedule order retries output = IsTracedBy (watched_lines base order) base schedule order retries output
 
 -- a whole run: the log has a complete order, its retries are good, and so it is printed
 pub record IsWatched (base : BaseTree) (schedule : List ℕ) (board : Log) (output : List ℕ) : Type 0 where

@@ -1,10 +1,11 @@
 use Rattle.fx_spec.specs.Bases.{base_tree}
 use Rattle.fx_words.specs.JobOf.{asked_audit}
-use Rattle.fx_audit_command.proofs.Auditing.{auditing, has_inputs}
+use Rattle.fx_inputs.proofs.Stages.{has_inputs_told}
+use Rattle.fx_audit_command.proofs.Auditing.{auditing}
 use Rattle.fx_audit_command.proofs.command.line_by.Goals as goal
 
 pub read_report-requires : goal.read_report-requires
-read_report-requires g c = has_inputs (asked_audit c.args.job.now) (base_tree c.args.base.value) (g.H.Host.view c.args.host.now) c.requires
+read_report-requires g c = has_inputs_told (asked_audit c.args.job.now).inputs (base_tree c.args.base.value) (g.H.Host.view c.args.host.now).told c.requires
 
 pub returns-clause-said : goal.returns-clause-said
 returns-clause-said g c =
