@@ -80,7 +80,8 @@ pub fn check(alloc: Global, description: Description) -> Result<Checked, CheckFa
             let Description { defs, root } = description;
             let defs = settled_defs(alloc, defs)?;
             let root = settled(alloc, root)?;
-            Ok(Checked::of(alloc, Description { defs, root })?)
+            let checked = Checked::of(alloc, Description { defs, root })?;
+            Ok(checked)
         }
         Err(fault) => {
             let_go_text(description);
