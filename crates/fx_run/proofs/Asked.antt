@@ -5,12 +5,11 @@ use Rattle.fx_store.specs.Rule.{Ask, Answer}
 use Rattle.fx_store.specs.Whole.{Store}
 use Rattle.fx_expr.specs.Bindings.{bind}
 use Rattle.fx_expr.specs.Tree.{Tree}
-use Rattle.fx_spec.specs.declared.refusal.Refusal.{Refusal}
 use Rattle.fx_spec.specs.declared.refusal.End.{End}
-use Rattle.fx_spec.specs.Move.{Answered}
+use Rattle.fx_spec.specs.Move.{Answered, at_place}
 use Rattle.fx_spec.specs.Refusals.{refusal_number}
 use Rattle.fx_spec.specs.Task.{Task, Ends, asking}
-use Rattle.fx_spec.specs.Transaction.{Effect, Moves, Changes, Standing, Flow, On, Over, binding, or_stop, taking, tried}
+use Rattle.fx_spec.specs.Transaction.{Effect, Moves, Changes, Standing, Flow, On, Over, binding, or_stop, run, taking, tried}
 use Rattle.fx_view.specs.declared.reader.Stop.{Stop}
 use Rattle.fx_view.specs.declared.reader.Stop.TheVariants as stop
 use Rattle.fx_view.specs.Meaning.{Meaning}
@@ -18,14 +17,18 @@ use Rattle.fx_base.proofs.Errors.{err_of}
 use Rattle.fx_session.specs.declared.halt.Halt.{Halt}
 use Rattle.fx_session.specs.declared.halt.Halt.TheVariants as halt
 use Rattle.fx_session.specs.Answering.{answered}
+use Rattle.fx_zip.specs.declared.question.Question.{Question}
+use Rattle.fx_zip.specs.declared.question.Question.TheVariants as question
+use Rattle.fx_zip.specs.Asking.{asked_at}
 use Rattle.fx_zip.specs.Calls.{Asks}
 use Rattle.fx_run.specs.Acts.{Acts, Took}
+use Rattle.fx_run.specs.Asking.{ask_command}
 use Rattle.fx_run.specs.declared.leave.Leave.{Leave}
 use Rattle.fx_run.specs.declared.leave.Leave.TheVariants as leave
 use Rattle.fx_run.specs.declared.work.Work.{Work}
 use Rattle.fx_run.specs.Leaving.{or_left, tried_number}
 use Rattle.fx_run.specs.Pursuing.{came, pursuit}
-use Rattle.fx_run.specs.Works.{standing_of, own_of, came_by, IsSound, Obeys}
+use Rattle.fx_run.specs.Works.{root_of, standing_of, own_of, came_by, IsSound, Obeys}
 use Rattle.fx_run.proofs.Going.{read_with}
 use Rattle.fx_run.proofs.Obeyed.{Leaves, asked_ends, asked_refused, asked_stops}
 
@@ -89,6 +92,12 @@ told_has i (Err h) P x made has = cc
 -- the answer is bound
 pub told_bound : {R L : Type 0} (x : List ℕ) (old new : Work R L) (v : Tree) → new.variables ≡ bind old.variables x v → new.walk.zip.address ≡ old.walk.zip.address → new.outputs ≡ old.outputs → Ends (On (binding (standing_of old) x v)) ≡ Ends (On (standing_of new))
 told_bound x old new v vars address outputs = (λ k. Ends (On (record { vars = sym vars k; address = sym address k; outputs = sym outputs k })))
+
+-- the task of a command that asks
+pub told_run : {R L : Type 0} {m : Meaning R} (i : ℕ) (x : List ℕ) (q : Question) {old new : Work R L} {r : Result (Unit {0}) Leave} → Obeys m (asking (at_place (root_of old) old.walk.zip.address (asked_at q)) (or_stop i (standing_of old) (λ v. Ends (On (binding (standing_of old) x v))))) old new r → Obeys m (run (root_of old) i (ask_command x q) (standing_of old)) old new r
+told_run i x (question.Fetch shape) h = h
+told_run i x (question.Whole shape) h = h
+told_run i x question.Validate h = h
 
 -- ---- an act
 

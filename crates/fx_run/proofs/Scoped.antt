@@ -1,5 +1,5 @@
 -- Variables of the shapes that a scope gives them, through commands and blocks.
-use Rattle.std.proofs.Common.{◌≡◌, ℕ, Bool, true, false, cond, List, [], ◌∷◌, ◌++◌, length, take, Some, None, Result, Ok, Err, refl, ap, ◌∙◌, sym, subst, append-nil, append_assoc}
+use Rattle.std.proofs.Common.{◌≡◌, ℕ, true, false, cond, List, [], ◌∷◌, ◌++◌, length, take, Some, None, Result, Ok, Err, refl, ap, ◌∙◌, sym, subst, append-nil, append_assoc}
 use Rattle.std.specs.Prelude.{IfOk, nat_eq, pos}
 use Rattle.std.specs.Cmp.Lexicographic.{pointwise}
 use Rattle.fx_expr.specs.Bindings.{bind, bound, newer_or, assigned, assign_or, own_assigned, first_some, or_same}
@@ -8,13 +8,18 @@ use Rattle.fx_expr.specs.ExprTree.{ExprTree}
 use Rattle.fx_expr.specs.ShapeTree.{ShapeTree}
 use Rattle.fx_expr.specs.Shapes.{HasShape, ValueHas, BindingsHave, IsWellShaped}
 use Rattle.fx_expr.specs.Tree.{Tree}
+use Rattle.fx_expr.specs.Views.{shape_tree}
 use Rattle.fx_expr.proofs.Shaping.{eval_has}
 use Rattle.fx_spec.specs.CommandTree.{ActTree, CommandTree, Block}
 use Rattle.fx_spec.specs.Describe.{Bindings}
 use Rattle.fx_spec.specs.Move.{evaluated}
 use Rattle.fx_spec.specs.WellShaped.{Scope, IsBlock}
 use Rattle.fx_spec.proofs.Scoped.{bind_has, set_has, cut_has}
+use Rattle.fx_zip.specs.declared.question.Question.{Question}
+use Rattle.fx_zip.specs.declared.question.Question.TheVariants as question
+use Rattle.fx_zip.specs.Asking.{asked_shape}
 use Rattle.fx_run.specs.Acts.{HasAct}
+use Rattle.fx_run.specs.Asking.{ask_command}
 use Rattle.fx_run.specs.declared.leave.Leave.{Leave}
 use Rattle.fx_run.specs.Scopes.{HasBlock, HasCommand, HasTurn, OpensScope, Scopes, ScopesBlock, KeepsVariables, KeepsTurn}
 
@@ -94,14 +99,10 @@ module _ (old new : Bindings) where
   pub scopes_attempt : (x : List ℕ) (a : ActTree) (n : ℕ) → new ≡ bind old x (Tree.int (pos n)) → Scopes (CommandTree.attempt x a) old new (Ok tt)
   scopes_attempt x a n bound scope rest b h = opens_bound scope old new rest x (Tree.int (pos n)) ShapeTree.int b refl bound h.2
 
-  pub scopes_fetch : (x : List ℕ) (s : ShapeTree) (v : Tree) → ValueHas v s → new ≡ bind old x v → Scopes (CommandTree.fetch x s) old new (Ok tt)
-  scopes_fetch x s v has bound scope rest b h = opens_bound scope old new rest x v s b has bound h.1
-
-  pub scopes_whole : (x : List ℕ) (s : ShapeTree) (v : Tree) → ValueHas v s → new ≡ bind old x v → Scopes (CommandTree.whole x s) old new (Ok tt)
-  scopes_whole x s v has bound scope rest b h = opens_bound scope old new rest x v s b has bound h.1
-
-  pub scopes_validate : (x : List ℕ) (holds : Bool) → new ≡ bind old x (Tree.bool holds) → Scopes (CommandTree.validate x) old new (Ok tt)
-  scopes_validate x holds bound scope rest b h = opens_bound scope old new rest x (Tree.bool holds) ShapeTree.bool b refl bound h.1
+  pub scopes_asked : (x : List ℕ) (q : Question) (v : Tree) → ValueHas v (asked_shape q) → new ≡ bind old x v → Scopes (ask_command x q) old new (Ok tt)
+  scopes_asked x (question.Fetch shape) v has bound scope rest b h = opens_bound scope old new rest x v (shape_tree shape.now) b has bound h.1
+  scopes_asked x (question.Whole shape) v has bound scope rest b h = opens_bound scope old new rest x v (shape_tree shape.now) b has bound h.1
+  scopes_asked x question.Validate v has bound scope rest b h = opens_bound scope old new rest x v ShapeTree.bool b has bound h.1
 
   module _ (r : Result (Unit {0}) Leave) where
     on : (P Q : Type 0) (r : Result (Unit {0}) Leave) → (P → Q) → IfOk r (λ _. P) → IfOk r (λ _. Q)

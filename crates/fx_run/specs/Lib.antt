@@ -1,4 +1,5 @@
 pub mod Acts
+pub mod Asking
 pub mod Leaving
 pub mod Pursuing
 pub mod Works

@@ -60,20 +60,6 @@ pub(crate) fn bind_number(
     variables.add(alloc, (word, Value::Int(number as i64)))
 }
 
-/// Binds a word to whether something holds.
-pub(crate) fn bind_truth(
-    alloc: Global,
-    variables: &mut Env,
-    word: &Word,
-    holds: bool,
-) -> Result<(), NoMemory>
-    ensures { IfOk result (λ _.
-        variables.new ≡ bindings.bind variables.old word.now (Tree.bool holds)) }
-{
-    let word = word.copy(alloc)?;
-    variables.add(alloc, (word, Value::Bool(holds)))
-}
-
 /// `let x = e`: binds the value of `e` to `x`.
 pub(crate) fn bind<R: Reader, L: Ledger>(
     work: &mut Work<'_, R, L>,

@@ -11,7 +11,7 @@ ghost use Rattle.fx_run.specs.Scopes.{Scopes, ScopesBlock};
 ghost use Rattle.fx_run.specs.Works.{IsSound, Obeys, root_of, standing_of};
 
 use crate::acting::{act, attempt};
-use crate::asking::{fetch, validate, whole};
+use crate::asking::ask;
 use crate::binding::{assign, bind, bind_text, print};
 use crate::counting::{command_at, number_of, number_of_all};
 use crate::evaluating::{names_of, truth_of};
@@ -20,6 +20,7 @@ use crate::work::Work;
 use fx_expr::{Expr, Text, TextSet, Word};
 use fx_spec::{Command, Commands, End};
 use fx_view::Reader;
+use fx_zip::Question;
 use std::sync::ledger::Ledger;
 
 /// Obeys the command with this number.
@@ -42,9 +43,9 @@ pub(crate) fn obey<R: Reader, L: Ledger>(
         Command::Attempt(word, deed) => attempt(work, word, deed),
         Command::Bind(word, expr) => bind(work, number, word, expr),
         Command::Assign(word, expr) => assign(work, number, word, expr),
-        Command::Fetch(word, shape) => fetch(work, number, word, shape),
-        Command::Whole(word, shape) => whole(work, number, word, shape),
-        Command::Validate(word) => validate(work, number, word),
+        Command::Fetch(word, shape) => ask(work, number, word, &Question::Fetch(shape)),
+        Command::Whole(word, shape) => ask(work, number, word, &Question::Whole(shape)),
+        Command::Validate(word) => ask(work, number, word, &Question::Validate),
         Command::Print(expr) => print(work, number, expr),
         Command::Branch(test, yes, no) => choose(work, number, test, yes, no),
         Command::Each(word, set, body) => each(work, number, word, set, body),

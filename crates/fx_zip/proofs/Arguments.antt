@@ -1,32 +1,12 @@
 -- The arguments of a call: their values, and their first fault.
-use Rattle.std.proofs.Common.{◌≡◌, ℕ, zero, suc, ◌+◌, ◌≤◌, List, [], ◌∷◌, length, drop, Option, Some, None, Result, Ok, Err, refl, sym, ap, ◌∙◌, subst, arith}
-use Rattle.std.specs.Prelude.{slice_get, IsErrAnd}
+use Rattle.fx_zip.proofs.Prelude.{◌≡◌, ℕ, zero, suc, ◌+◌, ◌≤◌, List, [], ◌∷◌, length, drop, Option, Some, None, Result, Ok, Err, refl, sym, ap, ◌∙◌, subst, arith, slice_get, IsErrAnd, Answer, Outcome, eval_of, ExprTree, ShapeTree}
+use Rattle.fx_zip.proofs.Prelude.{IsWellShaped, Tree, tree_of, Value, Refusal, Bindings, arguments, argument_evals, with_values, behind, then_others, unless_fault, Answered, evaluated, with_arguments, placed, in_body, SpecTree}
+use Rattle.fx_zip.proofs.Prelude.{AreArguments, err_of, Halt, answered, split, with_each, HaveShapes, HasScope, told, costs, Says, AreWellShaped, names_answer, arguments_tried}
 use Rattle.std.proofs.Math.Seq.{drop-length}
-use Rattle.fx_store.specs.Rule.{Answer}
-use Rattle.fx_expr.specs.Eval.{Outcome, eval_of}
-use Rattle.fx_expr.specs.ExprTree.{ExprTree}
-use Rattle.fx_expr.specs.ShapeTree.{ShapeTree}
-use Rattle.fx_expr.specs.Shapes.{IsWellShaped}
-use Rattle.fx_expr.specs.Tree.{Tree}
-use Rattle.fx_expr.specs.Views.{tree_of}
-use Rattle.fx_expr.specs.declared.value.Value.{Value}
 use Rattle.fx_expr.specs.declared.fault.ExprFault.{ExprFault}
-use Rattle.fx_spec.specs.declared.refusal.Refusal.{Refusal}
-use Rattle.fx_spec.specs.Describe.{Bindings, arguments, argument_evals, with_values, behind, then_others, unless_fault}
-use Rattle.fx_spec.specs.Move.{Answered, evaluated, with_arguments}
-use Rattle.fx_spec.specs.Place.{placed, in_body}
-use Rattle.fx_spec.specs.SpecTree.{SpecTree}
-use Rattle.fx_spec.specs.WellShaped.{AreArguments}
 use Rattle.fx_view.specs.declared.reader.Stop.TheVariants as stop
-use Rattle.fx_base.proofs.Errors.{err_of}
 use Rattle.fx_base.proofs.Lists.{drop_next}
-use Rattle.fx_session.specs.declared.halt.Halt.{Halt}
 use Rattle.fx_session.specs.declared.halt.Halt.TheVariants as halt
-use Rattle.fx_session.specs.Answering.{answered}
-use Rattle.fx_session.specs.Halts.{split}
-use Rattle.fx_walk.specs.Arguments.{with_each, HaveShapes}
-use Rattle.fx_walk.specs.Scopes.{HasScope}
-use Rattle.fx_zip.specs.Telling.{told, costs, Says, AreWellShaped, names_answer, arguments_tried}
 
 -- ---- an answer behind some evaluations
 

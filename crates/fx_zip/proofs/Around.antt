@@ -1,38 +1,14 @@
 -- Moves from a first part to the second, and to another element.
-use Rattle.fx_view.specs.ReadList.{ReadList}
-use Rattle.std.proofs.Common.{◌≡◌, ℕ, true, false, List, [], ◌∷◌, drop, Option, Some, None, option_map, Result, Ok, Err, refl, sym, ap, ◌∙◌, subst, length, take}
-use Rattle.std.specs.Prelude.{IfOk, IsErrAnd}
-use Rattle.std.specs.Option.{IfSome}
-use Rattle.fx_store.specs.Rule.{Known, Found, follow, answer, ticks}
-use Rattle.fx_store.specs.Whole.{Store}
-use Rattle.fx_expr.specs.Sets.{least_above, greatest_below}
-use Rattle.fx_spec.specs.declared.refusal.Refusal.{Refusal}
-use Rattle.fx_spec.specs.Describe.{Bindings, value}
+use Rattle.fx_zip.proofs.Prelude.{ReadList, ◌≡◌, ℕ, true, false, List, [], ◌∷◌, drop, Option, Some, None, option_map, Result, Ok, Err, refl, sym, ap, ◌∙◌, subst, length, take, IfOk, IsErrAnd, IfSome, Known, Found, follow, answer, ticks}
+use Rattle.fx_zip.proofs.Prelude.{Store, least_above, greatest_below, Refusal, Bindings, value, at_place, go_next, go_prev, Step, First, Second, Inside, Down, Body, Elem, Address, PlaceTree, placed, lead, place, SpecTree, IsDescription}
+use Rattle.fx_zip.proofs.Prelude.{Stop, Meaning, known_of, HasScope, Halt, Frame, Spot, Finds, Moves, Turns, Turned, next_at, prev_at, next_evals, sideways_evals, beside, AreFound, Stands, last_step, is_first, is_second_step, left}
+use Rattle.fx_zip.proofs.Prelude.{StandsIn, IsNoPair, child, part, bound_value, BindsValue, FirstLeads, entered, ZipTree, path_of, here, Implements, Session, own_at}
 use Rattle.fx_spec.specs.Evals.{evals_with}
-use Rattle.fx_spec.specs.Move.{at_place, go_next, go_prev}
-use Rattle.fx_spec.specs.Place.{Step, First, Second, Inside, Down, Body, Elem, Address, PlaceTree, placed, lead, place}
-use Rattle.fx_spec.specs.SpecTree.{SpecTree}
-use Rattle.fx_spec.specs.WellShaped.{IsDescription}
-use Rattle.fx_view.specs.declared.reader.Stop.{Stop}
 use Rattle.fx_view.specs.declared.reader.Stop.TheVariants as stop
-use Rattle.fx_view.specs.Meaning.{Meaning}
-use Rattle.fx_view.specs.Reads.{known_of}
-use Rattle.fx_walk.specs.Scopes.{HasScope}
-use Rattle.fx_session.specs.declared.halt.Halt.{Halt}
 use Rattle.fx_session.specs.declared.halt.Halt.TheVariants as halt
-use Rattle.fx_zip.specs.declared.frame.Frame.{Frame}
-use Rattle.fx_zip.specs.declared.frame.Spot.{Spot}
-use Rattle.fx_zip.specs.Calls.{Finds, Moves, Turns, Turned, next_at, prev_at, next_evals, sideways_evals, beside}
-use Rattle.fx_zip.specs.Fresh.{AreFound, Stands, last_step, is_first, is_second_step, left, StandsIn}
-use Rattle.fx_zip.specs.Parts.{IsNoPair, child, part}
-use Rattle.fx_zip.specs.Spots.{bound_value, BindsValue, FirstLeads, entered}
-use Rattle.fx_zip.specs.Trees.{ZipTree, path_of, here}
 use Rattle.fx_zip.proofs.Beside.{IsPair, is_pair, first_at, second_turns, second_memory, second_none, second_stop, turned_turns}
 use Rattle.fx_zip.proofs.Places.{moves_on}
 use Rattle.fx_zip.proofs.Standing.{stands_scope}
-use Rattle.fx_session.specs.Implements.{Implements}
-use Rattle.fx_session.specs.declared.session.Session.{Session}
-use Rattle.fx_view.specs.Own.{own_at}
 
 first_pair : (known own : Known) (p : List (List ℕ)) (env : Bindings) (at : PlaceTree) (s : SpecTree) → follow known own (lead First p env s) ≡ Found (Some at) → IsPair s
 first_pair known own p env at SpecTree.file found = absurd (cc)

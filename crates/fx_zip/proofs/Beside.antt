@@ -1,47 +1,16 @@
 -- Moves from a step to one beside it.
-use Rattle.fx_view.specs.ReadList.{ReadList}
-use Rattle.std.proofs.Common.{◌≡◌, ℕ, ◌-◌, true, cond, List, [], ◌∷◌, length, drop, take, Option, Some, None, is_some, option_map, Result, Ok, Err, refl, sym, ap, ◌∙◌, subst, arith}
-use Rattle.std.specs.Prelude.{IsErrAnd, IfOk, MatchOption}
-use Rattle.fx_store.specs.Rule.{Known, Ask, Answer, Found, follow, ticks, changed, ◌>>=◌}
-use Rattle.fx_store.specs.Whole.{Store}
-use Rattle.fx_expr.specs.Bindings.{bind}
-use Rattle.fx_expr.specs.Eval.{Outcome, eval_of, names_in}
-use Rattle.fx_expr.specs.ExprTree.{ExprTree}
-use Rattle.fx_expr.specs.Sets.{has_text}
-use Rattle.fx_expr.specs.Tree.{Tree}
-use Rattle.fx_spec.specs.declared.refusal.Refusal.{Refusal}
-use Rattle.fx_spec.specs.Describe.{Bindings, value}
-use Rattle.fx_spec.specs.Move.{Answered, unrefused, needed, at_place, another, chosen, element}
-use Rattle.fx_spec.specs.Place.{Step, First, Second, Inside, Down, Body, Elem, Address, PlaceTree, placed, lead, place}
-use Rattle.fx_spec.specs.SpecTree.{SpecTree}
-use Rattle.fx_view.specs.declared.reader.Stop.{Stop}
+use Rattle.fx_zip.proofs.Prelude.{ReadList, ◌≡◌, ℕ, ◌-◌, true, cond, List, [], ◌∷◌, length, drop, take, Option, Some, None, is_some, option_map, Result, Ok, Err, refl, sym, ap, ◌∙◌, subst, arith, IsErrAnd, IfOk, MatchOption, Known, Ask}
+use Rattle.fx_zip.proofs.Prelude.{Answer, Found, follow, ticks, changed, ◌>>=◌, Store, bind, Outcome, eval_of, names_in, ExprTree, has_text, Tree, Refusal, Bindings, value, Answered, unrefused, needed, at_place, another, chosen, element}
+use Rattle.fx_zip.proofs.Prelude.{Step, First, Second, Inside, Down, Body, Elem, Address, PlaceTree, placed, lead, place, SpecTree, Stop, Meaning, known_of, err_of, follow-bind, Halt, answered, split, Entry, Frame, Spot, OnRefused}
+use Rattle.fx_zip.proofs.Prelude.{SaysFound, Turns, Turned, Besides, beside, next_at, prev_at, next_evals, around, around_last, HasSet, IsHeldSet, AreFound, Stands, IsNoElement, last_step, last_set, last_caller, left, StandsIn, child, part}
+use Rattle.fx_zip.proofs.Prelude.{comp_name, bound_value, LeadsToSpot, LeadsFrom, Chooses, BindsValue, entered, step_tree, Says, set_answer, ZipTree, path_of, here, Implements, Answers, then_answers, then_refused, stops, same_rule, refused}
+use Rattle.fx_zip.proofs.Prelude.{Session, own_at}
 use Rattle.fx_view.specs.declared.reader.Stop.TheVariants as stop
-use Rattle.fx_view.specs.Meaning.{Meaning}
-use Rattle.fx_view.specs.Reads.{known_of}
-use Rattle.fx_base.proofs.Errors.{err_of}
-use Rattle.fx_view.proofs.Rules.{follow-bind}
-use Rattle.fx_session.specs.declared.halt.Halt.{Halt}
 use Rattle.fx_session.specs.declared.halt.Halt.TheVariants as halt
-use Rattle.fx_session.specs.Answering.{answered}
-use Rattle.fx_session.specs.Halts.{split}
-use Rattle.fx_zip.specs.declared.frame.Entry.{Entry}
-use Rattle.fx_zip.specs.declared.frame.Frame.{Frame}
 use Rattle.fx_zip.specs.declared.frame.Bound.TheVariants as bounds
-use Rattle.fx_zip.specs.declared.frame.Spot.{Spot}
-use Rattle.fx_zip.specs.Calls.{OnRefused, SaysFound, Turns, Turned, Besides, beside, next_at, prev_at, next_evals}
-use Rattle.fx_zip.specs.Fresh.{around, around_last, HasSet, IsHeldSet, AreFound, Stands, IsNoElement, last_step, last_set, last_caller, left, StandsIn}
-use Rattle.fx_zip.specs.Parts.{child, part, comp_name}
-use Rattle.fx_zip.specs.Spots.{bound_value, LeadsToSpot, LeadsFrom, Chooses, BindsValue, entered}
-use Rattle.fx_zip.specs.Steps.{step_tree}
-use Rattle.fx_zip.specs.Telling.{Says, set_answer}
-use Rattle.fx_zip.specs.Trees.{ZipTree, path_of, here}
 use Rattle.fx_zip.proofs.Entering.{leads_at, leads_step}
 use Rattle.fx_zip.proofs.Leads.{first_leads, element_leads, grown_is, front_last}
 use Rattle.fx_zip.proofs.Standing.{found_place, stands_settled, stands_left, stands_entered, left_settled}
-use Rattle.fx_session.specs.Implements.{Implements, Answers}
-use Rattle.fx_session.proofs.Calls.{then_answers, then_refused, stops, same_rule, refused}
-use Rattle.fx_session.specs.declared.session.Session.{Session}
-use Rattle.fx_view.specs.Own.{own_at}
 use Rattle.fx_zip.proofs.Sessions.{stands_on, found_by, found_on}
 
 all_taken : {A : Type 0} (xs : List A) → take (length xs) xs ≡ xs

@@ -1,35 +1,13 @@
 -- Steps that consult the filestore: inside an entry, and to a second part.
-use Rattle.std.proofs.Common.{◌≡◌, ℕ, Bool, true, false, cond, List, ◌∷◌, length, Option, Some, None, option_map, Result, Ok, Err, refl, sym, ap, ◌∙◌, subst}
-use Rattle.std.specs.Prelude.{IsErrAnd, IfOk}
-use Rattle.std.specs.Option.{IfSome}
-use Rattle.fx_store.specs.Rule.{Ask, Answer, ◌>>=◌}
-use Rattle.fx_expr.specs.Bindings.{bind}
-use Rattle.fx_expr.specs.Sets.{has_text}
-use Rattle.fx_expr.specs.Tree.{Tree}
-use Rattle.fx_spec.specs.declared.refusal.Refusal.{Refusal}
-use Rattle.fx_spec.specs.Describe.{Bindings, exists, value}
-use Rattle.fx_spec.specs.Move.{Answered, go_into, this_if}
-use Rattle.fx_spec.specs.Place.{Second, Inside, Address, PlaceTree, placed, where_true}
-use Rattle.fx_spec.specs.SpecTree.{SpecTree}
-use Rattle.fx_view.specs.declared.reader.Stop.{Stop}
+use Rattle.fx_zip.proofs.Prelude.{◌≡◌, ℕ, Bool, true, false, cond, List, ◌∷◌, length, Option, Some, None, option_map, Result, Ok, Err, refl, sym, ap, ◌∙◌, subst, IsErrAnd, IfOk, IfSome, Ask, Answer, ◌>>=◌, bind, has_text, Tree, Refusal}
+use Rattle.fx_zip.proofs.Prelude.{Bindings, exists, value, Answered, go_into, this_if, Second, Inside, Address, PlaceTree, placed, where_true, SpecTree, Stop, Meaning, err_of, Halt, Entry, Spot, IsNoPair, IsNoOption, grown, spot_place}
+use Rattle.fx_zip.proofs.Prelude.{LeadsTo, Enters, BindsValue, bound_value, step_tree, Implements, then_answers, then_refused, stops, answers, Session, own_at}
 use Rattle.fx_view.specs.declared.reader.Stop.TheVariants as stop
-use Rattle.fx_view.specs.Meaning.{Meaning}
-use Rattle.fx_base.proofs.Errors.{err_of}
-use Rattle.fx_session.specs.declared.halt.Halt.{Halt}
 use Rattle.fx_session.specs.declared.halt.Halt.TheVariants as halt
-use Rattle.fx_zip.specs.declared.frame.Entry.{Entry}
 use Rattle.fx_zip.specs.declared.frame.Bound.TheVariants as bounds
-use Rattle.fx_zip.specs.declared.frame.Spot.{Spot}
-use Rattle.fx_zip.specs.Parts.{IsNoPair, IsNoOption}
-use Rattle.fx_zip.specs.Spots.{grown, spot_place, LeadsTo, Enters, BindsValue, bound_value}
-use Rattle.fx_zip.specs.Steps.{step_tree}
 use Rattle.fx_zip.proofs.Beside.{leads_second, by_all}
 use Rattle.fx_zip.proofs.Entering.{leads_step}
 use Rattle.fx_zip.proofs.Leads.{grown_is}
-use Rattle.fx_session.specs.Implements.{Implements}
-use Rattle.fx_session.proofs.Calls.{then_answers, then_refused, stops, answers}
-use Rattle.fx_session.specs.declared.session.Session.{Session}
-use Rattle.fx_view.specs.Own.{own_at}
 use Rattle.fx_zip.proofs.Sessions.{found_by}
 
 -- ---- elements that are chosen are elements

@@ -1,12 +1,7 @@
 -- The frames that are dropped after an edit.
-use Rattle.std.proofs.Common.{◌≡◌, ℕ, Bool, true, false, cond, drop, List, [], ◌∷◌, refl, sym, ap, ◌∙◌, subst}
-use Rattle.fx_store.specs.Rule.{Known}
-use Rattle.fx_view.specs.ReadList.{ReadList}
-use Rattle.fx_zip.specs.Fresh.{IsFresh, are_told, shorter, told_of, told_by}
-use Rattle.fx_zip.specs.Trees.{ZipTree}
-use Rattle.fx_zip.specs.declared.frame.Frame.{Frame}
+use Rattle.fx_zip.proofs.Prelude.{◌≡◌, ℕ, Bool, true, false, cond, drop, List, [], ◌∷◌, refl, sym, ap, ◌∙◌, subst, Known, ReadList, IsFresh, are_told, shorter, told_of, told_by, ZipTree, Frame}
 
--- what is left to drop leads to the same
+-- dropping from here on gives what dropping from the start gives, and the frames are still those that were found
 pub record IsDropping (untouched : ℕ) (initial now : ZipTree) : Type 0 where
   pub kept : told_by untouched now ≡ told_by untouched initial
   pub root : now.root ≡ initial.root

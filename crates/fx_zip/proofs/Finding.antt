@@ -1,27 +1,12 @@
 -- The loop that finds the place of a zipper.
-use Rattle.std.proofs.Common.{◌≡◌, ◌+◌, ◌-◌, ◌<◌, ◌≤◌, Bool, true, false, cond, [], ◌∷◌, ◌++◌, length, Option, Some, None, Result, Ok, Err, refl, sym, ap, ◌∙◌, subst, arith, length-append}
-use Rattle.std.specs.Prelude.{IsErrAnd}
-use Rattle.fx_store.specs.Rule.{Ask, Answer, ticks, changed}
-use Rattle.fx_spec.specs.declared.refusal.Refusal.{Refusal}
-use Rattle.fx_spec.specs.Move.{needed}
-use Rattle.fx_spec.specs.Place.{Address, PlaceTree, placed, place}
-use Rattle.fx_view.specs.declared.reader.Stop.{Stop}
-use Rattle.fx_view.specs.Meaning.{Meaning}
-use Rattle.fx_base.proofs.Errors.{err_of}
-use Rattle.fx_session.specs.declared.halt.Halt.{Halt}
+use Rattle.fx_zip.proofs.Prelude.{◌≡◌, ◌+◌, ◌-◌, ◌<◌, ◌≤◌, Bool, true, false, cond, [], ◌∷◌, ◌++◌, length, Option, Some, None, Result, Ok, Err, refl, sym, ap, ◌∙◌, subst, arith, length-append, IsErrAnd, Ask, Answer, ticks, changed, Refusal}
+use Rattle.fx_zip.proofs.Prelude.{needed, Address, PlaceTree, placed, place, Stop, Meaning, err_of, Halt, IsSettling, SettlesTo, SettlesFrames, Finds, Evaluates, place_needed, part, ZipTree, is_settled, path_of, here, Implements, Answers}
+use Rattle.fx_zip.proofs.Prelude.{then_answers, stops, Session, own_at, IsFreshIn}
 use Rattle.fx_session.specs.declared.halt.Halt.TheVariants as halt
-use Rattle.fx_zip.specs.Calls.{IsSettling, SettlesTo, SettlesFrames, Finds, Evaluates, place_needed}
-use Rattle.fx_zip.specs.Parts.{part}
-use Rattle.fx_zip.specs.Trees.{ZipTree, is_settled, path_of, here}
 use Rattle.fx_zip.proofs.Settled.{PlaceOr, settling_first, settling_fresh}
 use Rattle.fx_zip.proofs.Nexting.{few_frames}
 use Rattle.fx_zip.proofs.Standing.{found_length, fresh_stands}
-use Rattle.fx_session.specs.Implements.{Implements, Answers}
-use Rattle.fx_session.proofs.Calls.{then_answers, stops}
 use Rattle.fx_zip.proofs.Sessions.{stops_as, answers_as}
-use Rattle.fx_session.specs.declared.session.Session.{Session}
-use Rattle.fx_view.specs.Own.{own_at}
-use Rattle.fx_zip.specs.Fresh.{IsFreshIn}
 
 pub record Finding {R L : Type 0} (m : Meaning R) (first : ZipTree) (start now : Session R L) (z : ZipTree) : Type 0 where
   pub settling : IsSettling m start now z

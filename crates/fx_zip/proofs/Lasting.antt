@@ -1,24 +1,11 @@
 -- Frames that last over own changes: a rule is followed as before where the own changes are as before at all that was read.
-use Rattle.std.proofs.Common.{◌≡◌, ℕ, zero, suc, ◌+◌, ◌-◌, ◌≤◌, ◌<◌, Bool, true, false, ◌&&◌, List, [], ◌∷◌, ◌++◌, length, take, drop, Option, Some, None, IsSome, is_some, refl, sym, ap, ◌∙◌, subst, arith, append_assoc, length-append}
-use Rattle.std.specs.Prelude.{nat_le, slice_get}
+use Rattle.fx_zip.proofs.Prelude.{◌≡◌, ℕ, zero, suc, ◌+◌, ◌-◌, ◌≤◌, ◌<◌, Bool, true, false, ◌&&◌, List, [], ◌∷◌, ◌++◌, length, take, drop, Option, Some, None, IsSome, is_some, refl, sym, ap, ◌∙◌, subst, arith, append_assoc, length-append}
+use Rattle.fx_zip.proofs.Prelude.{nat_le, slice_get, and_from, Node, Known, Ask, Answer, Look, Tick, follow, if_known, seen, Bindings, Address, lead, SpecTree, ReadList, SameOver, known_of, Frame, around, around_last, around_frame, shorter}
+use Rattle.fx_zip.proofs.Prelude.{AreFound, IsFresh, are_told, part, ZipTree, path_of, turned}
 use Rattle.std.proofs.lemmas.Bool.Decides.{nat_tests}
-use Rattle.std.proofs.lemmas.Bool.{and_from}
 use Rattle.fx_base.proofs.Booleans.{first_true, second_true}
 use Rattle.fx_base.proofs.Results.{still_some}
-use Rattle.fx_store.specs.declared.node.Node.{Node}
-use Rattle.fx_store.specs.Rule.{Known, Ask, Answer, Look, Tick, follow, if_known, seen}
-use Rattle.fx_spec.specs.Describe.{Bindings}
-use Rattle.fx_spec.specs.Place.{Address, lead}
-use Rattle.fx_spec.specs.SpecTree.{SpecTree}
-use Rattle.fx_view.specs.ReadList.{ReadList}
-use Rattle.fx_view.specs.Own.{SameOver}
-use Rattle.fx_view.specs.Reads.{known_of}
 use Rattle.fx_view.proofs.Growing.{Grows, Grows-reads}
-use Rattle.fx_zip.specs.declared.frame.Frame.{Frame}
-use Rattle.fx_zip.specs.Fresh.{around, around_last, around_frame, shorter, AreFound, IsFresh, are_told}
-use Rattle.fx_zip.specs.Parts.{part}
-use Rattle.fx_zip.specs.Trees.{ZipTree, path_of}
-use Rattle.fx_zip.specs.Steps.{turned}
 use Rattle.fx_zip.proofs.Standing.{IsMore, found_length}
 use Rattle.fx_zip.proofs.Turning.{turned_at, turned-last}
 

@@ -1,34 +1,13 @@
 -- Where the steps lead, form by form.
-use Rattle.std.proofs.Common.{◌≡◌, ℕ, ◌+◌, ◌-◌, ◌≤◌, true, false, List, [], ◌∷◌, ◌++◌, length, take, Option, Some, None, Result, Ok, Err, refl, sym, ap, ◌∙◌, subst, arith, length-append}
-use Rattle.std.specs.Prelude.{IsErrAnd}
+use Rattle.fx_zip.proofs.Prelude.{◌≡◌, ℕ, ◌+◌, ◌-◌, ◌≤◌, true, List, [], ◌∷◌, ◌++◌, length, take, Option, Some, None, Result, Ok, Err, refl, sym, ap, ◌∙◌, subst, arith, length-append, IsErrAnd, bind, Outcome, eval_of, names_in, ExprTree}
+use Rattle.fx_zip.proofs.Prelude.{has_text, ShapeTree, Tree, tree_of, Refusal, Bindings, focus_path, arguments, argument_evals, Answered, Step, First, Down, Body, Elem, PlaceTree, placed, where_true, has_element, at_path, in_body, lead}
+use Rattle.fx_zip.proofs.Prelude.{SpecTree, Stop, err_of, Halt, answered, split, Spot, around, HasSet, IsNoCall, grown, bound_name, caller_in, spot_place, IsSpot, LeadsAt, BindsText, BindsNames, costs, Says, set_answer, names_answer, given}
+use Rattle.fx_zip.proofs.Prelude.{inner_names}
 use Rattle.std.proofs.Math.Seq.{take-append_seam}
-use Rattle.fx_expr.specs.Bindings.{bind}
-use Rattle.fx_expr.specs.Eval.{Outcome, eval_of, names_in}
-use Rattle.fx_expr.specs.ExprTree.{ExprTree}
-use Rattle.fx_expr.specs.Sets.{has_text}
-use Rattle.fx_expr.specs.ShapeTree.{ShapeTree}
-use Rattle.fx_expr.specs.Tree.{Tree}
-use Rattle.fx_expr.specs.Views.{tree_of}
-use Rattle.fx_spec.specs.declared.refusal.Refusal.{Refusal}
-use Rattle.fx_spec.specs.Describe.{Bindings, focus_path, arguments, argument_evals}
-use Rattle.fx_spec.specs.Move.{Answered}
-use Rattle.fx_spec.specs.Place.{Step, First, Down, Body, Elem, PlaceTree, placed, where_true, has_element, at_path, in_body, lead}
-use Rattle.fx_spec.specs.SpecTree.{SpecTree}
-use Rattle.fx_view.specs.declared.reader.Stop.{Stop}
 use Rattle.fx_view.specs.declared.reader.Stop.TheVariants as stop
-use Rattle.fx_base.proofs.Errors.{err_of}
-use Rattle.fx_session.specs.declared.halt.Halt.{Halt}
 use Rattle.fx_session.specs.declared.halt.Halt.TheVariants as halt
-use Rattle.fx_session.specs.Answering.{answered}
-use Rattle.fx_session.specs.Halts.{split}
 use Rattle.fx_zip.specs.declared.frame.Bound.{Bound}
 use Rattle.fx_zip.specs.declared.frame.Bound.TheVariants as bounds
-use Rattle.fx_zip.specs.declared.frame.Spot.{Spot}
-use Rattle.fx_zip.specs.Fresh.{around, HasSet}
-use Rattle.fx_zip.specs.Parts.{IsNoPair, IsNoComp, IsNoFocus, IsNoCall}
-use Rattle.fx_zip.specs.Spots.{grown, bound_name, caller_in, spot_place, IsSpot, LeadsAt, BindsText, BindsNames}
-use Rattle.fx_zip.specs.Telling.{costs, Says, set_answer, names_answer, given}
-use Rattle.fx_walk.specs.Arguments.{inner_names}
 use Rattle.fx_zip.proofs.Arguments.{told_behind, costs_behind, body_place, body_no_place}
 
 -- ---- what is given where a call is not refused
@@ -84,27 +63,9 @@ module _ (p : List (List ℕ)) (env : Bindings) where
         spot = record { held = tt; back = ap (grown env) bound };
       })
 
-  pub first_none : (s : SpecTree) (n : ℕ) → IsNoPair s → LeadsAt First p env s n n (Ok None)
-  first_none SpecTree.file n none = record { tells = record { says = refl; most = omega arith }; spot = tt }
-  first_none SpecTree.dir n none = record { tells = record { says = refl; most = omega arith }; spot = tt }
-  first_none SpecTree.link n none = record { tells = record { says = refl; most = omega arith }; spot = tt }
-  first_none (SpecTree.focus e s) n none = record { tells = record { says = refl; most = omega arith }; spot = tt }
-  first_none (SpecTree.pair x a b) n none = absurd none
-  first_none (SpecTree.comp s x e) n none = record { tells = record { says = refl; most = omega arith }; spot = tt }
-  first_none (SpecTree.opt s) n none = record { tells = record { says = refl; most = omega arith }; spot = tt }
-  first_none (SpecTree.pred e) n none = record { tells = record { says = refl; most = omega arith }; spot = tt }
-  first_none (SpecTree.call args params s) n none = record { tells = record { says = refl; most = omega arith }; spot = tt }
-  first_none (SpecTree.last args params) n none = record { tells = record { says = refl; most = omega arith }; spot = tt }
-
   -- ---- the paths of focuses
 
   module _ (s : SpecTree) (e : ExprTree) (d : SpecTree) (is : s ≡ SpecTree.focus e d) (was now : ℕ) (one : now ≡ was + 1) where
-    down_cost : now ≤ was + costs (lead Down p env s)
-    down_cost = subst (λ s. now ≤ was + costs (lead Down p env s)) (sym is) (omega (arith, one))
-
-    pub down_refused : (r : Result (Option Spot) Stop) → IsErrAnd r (λ d. d ≡ stop.NoMemory) → LeadsAt Down p env s was now r
-    down_refused r none = leads_refused Down s was now r down_cost none
-
     pub down_leads : (q : List (List ℕ)) (spot : Spot) → focus_path p (eval_of env e) ≡ Ok q → spot.path ≡ q → spot.bound ≡ bounds.Nothing → LeadsAt Down p env s was now (Ok (Some spot))
     down_leads q spot formed path bound =
         subst (λ s. LeadsAt Down p env s was now (Ok (Some spot))) (sym is)
@@ -115,23 +76,6 @@ module _ (p : List (List ℕ)) (env : Bindings) where
           };
           spot = record { held = tt; back = ap (grown env) bound };
         })
-
-    pub down_none : (f : Refusal) → focus_path p (eval_of env e) ≡ Err f → LeadsAt Down p env s was now (Ok None)
-    down_none f formed =
-        subst (λ s. LeadsAt Down p env s was now (Ok None)) (sym is)
-        (record { tells = record { says = ap (λ q. Some (at_path env d q)) formed; most = omega (arith, one) }; spot = tt })
-
-  pub down_form : (s : SpecTree) (n : ℕ) → IsNoFocus s → LeadsAt Down p env s n n (Ok None)
-  down_form SpecTree.file n none = record { tells = record { says = refl; most = omega arith }; spot = tt }
-  down_form SpecTree.dir n none = record { tells = record { says = refl; most = omega arith }; spot = tt }
-  down_form SpecTree.link n none = record { tells = record { says = refl; most = omega arith }; spot = tt }
-  down_form (SpecTree.focus e s) n none = absurd none
-  down_form (SpecTree.pair x a b) n none = record { tells = record { says = refl; most = omega arith }; spot = tt }
-  down_form (SpecTree.comp s x e) n none = record { tells = record { says = refl; most = omega arith }; spot = tt }
-  down_form (SpecTree.opt s) n none = record { tells = record { says = refl; most = omega arith }; spot = tt }
-  down_form (SpecTree.pred e) n none = record { tells = record { says = refl; most = omega arith }; spot = tt }
-  down_form (SpecTree.call args params s) n none = record { tells = record { says = refl; most = omega arith }; spot = tt }
-  down_form (SpecTree.last args params) n none = record { tells = record { says = refl; most = omega arith }; spot = tt }
 
   -- ---- bodies
 
@@ -191,10 +135,6 @@ module _ (p : List (List ℕ)) (env : Bindings) where
   has_answer (Ok v) t set h = let same : names_in v ≡ set = cc in ap (has_text t) same
   has_answer (Err f) t set h = absurd (cc)
 
-  no_answer : (o : Outcome) (t : List ℕ) (f : Refusal) → set_answer o ≡ Err f → has_element t o ≡ false
-  no_answer (Ok v) t f h = absurd (cc)
-  no_answer (Err g) t f h = refl
-
   pub element_spot : (t : List ℕ) (d : SpecTree) (x : List ℕ) (e : ExprTree) (set : List (List ℕ)) (spot : Spot) → set_answer (eval_of env e) ≡ Ok set → BindsText p x t set spot → IsSpot (Elem t) env (SpecTree.comp d x e) spot
   element_spot t d x e set spot answer binds = record {
     held = subst (λ o. HasSet o (eval_of env e)) (sym binds.held) answer;
@@ -208,12 +148,6 @@ module _ (p : List (List ℕ)) (env : Bindings) where
       ∙ (λ i. Some (placed (sym binds.path i) (sym (grown_is env spot.bound (x, Tree.str t) binds.bound) i) d))
 
   module _ (t : List ℕ) (s : SpecTree) (d : SpecTree) (x : List ℕ) (e : ExprTree) (is : s ≡ SpecTree.comp d x e) (was now : ℕ) (one : now ≡ was + 1) where
-    element_cost : now ≤ was + costs (lead (Elem t) p env s)
-    element_cost = subst (λ s. now ≤ was + costs (lead (Elem t) p env s)) (sym is) (omega (arith, one))
-
-    pub element_refused : (r : Result (Option Spot) Stop) → IsErrAnd r (λ d. d ≡ stop.NoMemory) → LeadsAt (Elem t) p env s was now r
-    element_refused r none = leads_refused (Elem t) s was now r element_cost none
-
     pub element_leads : (set : List (List ℕ)) (spot : Spot) → set_answer (eval_of env e) ≡ Ok set → has_text t set ≡ true → BindsText p x t set spot → LeadsAt (Elem t) p env s was now (Ok (Some spot))
     element_leads set spot answer has binds =
         subst (λ s. LeadsAt (Elem t) p env s was now (Ok (Some spot))) (sym is)
@@ -221,26 +155,3 @@ module _ (p : List (List ℕ)) (env : Bindings) where
           tells = record { says = ap Some (element_place t d x e set spot answer has binds); most = omega (arith, one) };
           spot = element_spot t d x e set spot answer binds;
         })
-
-    none_if : has_element t (eval_of env e) ≡ false → LeadsAt (Elem t) p env s was now (Ok None)
-    none_if none =
-        subst (λ s. LeadsAt (Elem t) p env s was now (Ok None)) (sym is)
-        (record { tells = record { says = ap (λ b. Some (where_true b (placed p (bind env x (Tree.str t)) d))) none; most = omega (arith, one) }; spot = tt })
-
-    pub element_none : (set : List (List ℕ)) → set_answer (eval_of env e) ≡ Ok set → has_text t set ≡ false → LeadsAt (Elem t) p env s was now (Ok None)
-    element_none set answer none = none_if (has_answer (eval_of env e) t set answer ∙ none)
-
-    pub element_fault : (f : Refusal) → set_answer (eval_of env e) ≡ Err f → LeadsAt (Elem t) p env s was now (Ok None)
-    element_fault f answer = none_if (no_answer (eval_of env e) t f answer)
-
-  pub element_form : (t : List ℕ) (s : SpecTree) (n : ℕ) → IsNoComp s → LeadsAt (Elem t) p env s n n (Ok None)
-  element_form t SpecTree.file n none = record { tells = record { says = refl; most = omega arith }; spot = tt }
-  element_form t SpecTree.dir n none = record { tells = record { says = refl; most = omega arith }; spot = tt }
-  element_form t SpecTree.link n none = record { tells = record { says = refl; most = omega arith }; spot = tt }
-  element_form t (SpecTree.focus e s) n none = record { tells = record { says = refl; most = omega arith }; spot = tt }
-  element_form t (SpecTree.pair x a b) n none = record { tells = record { says = refl; most = omega arith }; spot = tt }
-  element_form t (SpecTree.comp s x e) n none = absurd none
-  element_form t (SpecTree.opt s) n none = record { tells = record { says = refl; most = omega arith }; spot = tt }
-  element_form t (SpecTree.pred e) n none = record { tells = record { says = refl; most = omega arith }; spot = tt }
-  element_form t (SpecTree.call args params s) n none = record { tells = record { says = refl; most = omega arith }; spot = tt }
-  element_form t (SpecTree.last args params) n none = record { tells = record { says = refl; most = omega arith }; spot = tt }

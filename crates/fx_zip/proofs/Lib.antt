@@ -1,3 +1,4 @@
+pub mod Prelude
 pub mod Arguments
 pub mod Turning
 pub mod Standing

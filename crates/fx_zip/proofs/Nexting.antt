@@ -1,32 +1,12 @@
 -- The first step that has no frame, and the zipper with one frame more.
-use Rattle.fx_view.specs.ReadList.{ReadList}
-use Rattle.std.proofs.Common.{◌≡◌, ℕ, ◌<◌, Bool, true, false, List, [], ◌∷◌, ◌++◌, length, take, get_or, Option, Some, None, Result, Ok, Err, refl, sym, ap, ◌∙◌, subst, arith, append_assoc, length-append}
-use Rattle.std.specs.Prelude.{slice_get, IsErrAnd}
-use Rattle.std.proofs.lemmas.Option.{slice_get_read}
-use Rattle.fx_zip.specs.declared.frame.Frame.{Frame}
-use Rattle.std.proofs.lemmas.Bool.{eqb-false}
-use Rattle.fx_store.specs.Rule.{Known}
-use Rattle.fx_spec.specs.Describe.{Bindings}
-use Rattle.fx_spec.specs.SpecTree.{SpecTree}
-use Rattle.fx_spec.specs.WellShaped.{IsDescription}
-use Rattle.fx_view.specs.declared.reader.Stop.{Stop}
+use Rattle.fx_zip.proofs.Prelude.{ReadList, ◌≡◌, ℕ, ◌<◌, Bool, true, false, List, [], ◌∷◌, ◌++◌, length, take, get_or, Option, Some, None, Result, Ok, Err, refl, sym, ap, ◌∙◌, subst, arith, append_assoc, length-append, slice_get, IsErrAnd}
+use Rattle.fx_zip.proofs.Prelude.{slice_get_read, Frame, eqb-false, Known, Bindings, SpecTree, IsDescription, Stop, Meaning, err_of, HasScope, Spot, IsSettling, SettlesFrames, IsFresh, part, LeadsTo, LeadsNext, kept_too, step_tree, turned}
+use Rattle.fx_zip.proofs.Prelude.{ZipTree, path_of, is_settled, Session, own_at}
 use Rattle.fx_view.specs.declared.reader.Stop.TheVariants as stop
-use Rattle.fx_view.specs.Meaning.{Meaning}
-use Rattle.fx_base.proofs.Errors.{err_of}
-use Rattle.fx_walk.specs.Scopes.{HasScope}
-use Rattle.fx_zip.specs.declared.frame.Spot.{Spot}
 use Rattle.fx_zip.specs.declared.step.Step.{Step}
-use Rattle.fx_zip.specs.Calls.{IsSettling, SettlesFrames}
-use Rattle.fx_zip.specs.Fresh.{IsFresh}
-use Rattle.fx_zip.specs.Parts.{part}
-use Rattle.fx_zip.specs.Spots.{LeadsTo, LeadsNext, kept_too}
-use Rattle.fx_zip.specs.Steps.{step_tree, turned}
-use Rattle.fx_zip.specs.Trees.{ZipTree, path_of, is_settled}
 use Rattle.fx_zip.proofs.Settled.{IsNext, next_step, settles_on, settles_none, settles_stop, settles_memory}
 use Rattle.fx_zip.proofs.Standing.{found_length, found_scope}
 use Rattle.fx_zip.proofs.Turning.{length-turned, same_ends}
-use Rattle.fx_session.specs.declared.session.Session.{Session}
-use Rattle.fx_view.specs.Own.{own_at}
 
 module _ (known : ReadList) (own : Known) (z : ZipTree) (fresh : IsFresh known own z) where
   frames_kept : length z.frames ≡ length fresh.kept

@@ -1,44 +1,14 @@
 -- Moves and questions: the place is found, and then the rule is followed from there.
-use Rattle.fx_view.specs.ReadList.{ReadList}
-use Rattle.std.proofs.Common.{◌≡◌, ℕ, ◌+◌, ◌≤◌, List, [], Option, Some, Result, Ok, Err, refl, sym, ap, ◌∙◌, subst, arith}
-use Rattle.std.specs.Prelude.{IfOk, IsErrAnd}
-use Rattle.fx_store.specs.Rule.{Known, Ask, Answer, answer, ticks, changed, ◌>>=◌}
-use Rattle.fx_store.specs.Whole.{Store}
+use Rattle.fx_zip.proofs.Prelude.{ReadList, ◌≡◌, ℕ, ◌+◌, ◌≤◌, List, [], Option, Some, Result, Ok, Err, refl, sym, ap, ◌∙◌, subst, arith, IfOk, IsErrAnd, Known, Ask, Answer, answer, ticks, changed, ◌>>=◌, Store, Refusal, Answered, needed}
+use Rattle.fx_zip.proofs.Prelude.{unrefused, at_place, Address, PlaceTree, place, SpecTree, Bindings, from_place, IsDescription, HasScope, Stop, Meaning, known_of, Agrees, err_of, found_answer, Halt, answered, split, step_halt, Entry}
+use Rattle.fx_zip.proofs.Prelude.{OnRefused, place_needed, place_evals, Evaluates, Finds, Moves, Turns, Asks, IsSetOf, Stands, StandsIn, IsFreshIn, part, Enters, entered, step_tree, ZipTree, IsSettled, path_of, here, Implements, Answers}
+use Rattle.fx_zip.proofs.Prelude.{then_on, same_rule, refused, Session, own_at, OwnList}
 use Rattle.fx_store.proofs.Asks.{ask-bind-assoc}
-use Rattle.fx_spec.specs.declared.refusal.Refusal.{Refusal}
 use Rattle.fx_spec.specs.Evals.{evals_with}
-use Rattle.fx_spec.specs.Move.{Answered, needed, unrefused, at_place}
-use Rattle.fx_spec.specs.Place.{Address, PlaceTree, place}
-use Rattle.fx_spec.specs.SpecTree.{SpecTree}
-use Rattle.fx_spec.specs.Describe.{Bindings}
-use Rattle.fx_spec.specs.Transaction.{from_place}
-use Rattle.fx_spec.specs.WellShaped.{IsDescription}
-use Rattle.fx_walk.specs.Scopes.{HasScope}
-use Rattle.fx_view.specs.declared.reader.Stop.{Stop}
 use Rattle.fx_view.specs.declared.reader.Stop.TheVariants as stop
-use Rattle.fx_view.specs.Meaning.{Meaning}
-use Rattle.fx_view.specs.Reads.{known_of, Agrees}
-use Rattle.fx_base.proofs.Errors.{err_of}
-use Rattle.fx_view.proofs.Rules.{found_answer}
-use Rattle.fx_session.specs.declared.halt.Halt.{Halt}
 use Rattle.fx_session.specs.declared.halt.Halt.TheVariants as halt
-use Rattle.fx_session.specs.Answering.{answered}
-use Rattle.fx_session.specs.Halts.{split}
-use Rattle.fx_session.proofs.Halting.{step_halt}
-use Rattle.fx_zip.specs.declared.frame.Entry.{Entry}
-use Rattle.fx_zip.specs.Calls.{OnRefused, place_needed, place_evals, Evaluates, Finds, Moves, Turns, Asks}
-use Rattle.fx_zip.specs.Fresh.{IsSetOf, Stands, StandsIn, IsFreshIn}
-use Rattle.fx_zip.specs.Parts.{part}
-use Rattle.fx_zip.specs.Spots.{Enters, entered}
-use Rattle.fx_zip.specs.Steps.{step_tree}
-use Rattle.fx_zip.specs.Trees.{ZipTree, IsSettled, path_of, here}
 use Rattle.fx_zip.proofs.Standing.{stands_fresh, stands_settled, stands_here, stands_entered, stands_scope}
-use Rattle.fx_session.specs.Implements.{Implements, Answers}
-use Rattle.fx_session.proofs.Calls.{then_on, same_rule, refused}
 use Rattle.fx_zip.proofs.Sessions.{memory_after, answers_as}
-use Rattle.fx_session.specs.declared.session.Session.{Session}
-use Rattle.fx_view.specs.Own.{own_at}
-use Rattle.fx_view.specs.OwnList.{OwnList}
 use Rattle.fx_zip.proofs.Sessions.{agrees_on, fresh_on, stands_on, stops_as}
 
 at_place_is : {B : Type 0} (root : SpecTree) (a : Address) (rest : PlaceTree → Ask (Answered B)) → (place_needed root a >>= unrefused rest) ≡ at_place root a rest

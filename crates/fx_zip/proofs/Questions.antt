@@ -1,38 +1,14 @@
 -- Questions at the place: their answers, and the shapes of what is answered.
-use Rattle.std.proofs.Common.{◌≡◌, ℕ, List, Bool, true, false, Option, Some, None, Result, Ok, Err, refl, sym, ap, subst, arith}
-use Rattle.std.specs.Prelude.{IfOk, cond}
-use Rattle.std.specs.Option.{unwrap_or}
-use Rattle.fx_store.specs.declared.node.Node.{Node}
-use Rattle.fx_store.specs.Rule.{Ask, Answer, Tick, AgreesWith, answer, changed}
-use Rattle.fx_store.specs.Whole.{Store}
-use Rattle.fx_expr.specs.Eval.{Outcome}
-use Rattle.fx_expr.specs.Shapes.{ValueHas}
-use Rattle.fx_expr.specs.ShapeTree.{ShapeTree}
-use Rattle.fx_expr.specs.Tree.{Tree}
-use Rattle.fx_expr.specs.Views.{tree_of}
-use Rattle.fx_expr.specs.declared.value.Value.{Value}
-use Rattle.fx_spec.specs.declared.refusal.Refusal.{Refusal}
-use Rattle.fx_spec.specs.Describe.{Bindings, value}
-use Rattle.fx_spec.specs.Move.{Answered, evaluated, of_shape, fetched}
-use Rattle.fx_spec.specs.Place.{PlaceTree, placed}
-use Rattle.fx_spec.specs.SpecTree.{SpecTree}
-use Rattle.fx_view.specs.Meaning.{Meaning}
-use Rattle.fx_view.specs.Reads.{known_of}
-use Rattle.fx_view.proofs.Rules.{found_answer}
-use Rattle.fx_session.specs.declared.halt.Halt.{Halt}
-use Rattle.fx_session.specs.Answering.{answered}
-use Rattle.fx_session.specs.Halts.{split}
-use Rattle.fx_zip.specs.Calls.{value_needed}
-use Rattle.fx_zip.specs.Telling.{Says}
-use Rattle.fx_session.specs.Implements.{Implements, Answers}
-use Rattle.fx_session.proofs.Calls.{same_rule, answers}
-use Rattle.fx_session.specs.declared.session.Session.{Session}
-use Rattle.fx_view.specs.Own.{own_at}
-use Rattle.fx_session.specs.Implements.{ticked}
+use Rattle.fx_zip.proofs.Prelude.{◌≡◌, ℕ, List, [], Bool, true, false, Option, Some, None, Result, Ok, Err, refl, sym, ap, subst, arith, IfOk, cond, unwrap_or, Node, Ask, Answer, Tick, AgreesWith, answer, changed, Store, Outcome, ValueHas}
+use Rattle.fx_zip.proofs.Prelude.{ShapeTree, Tree, shape_tree, tree_of, Value, Refusal, Bindings, value, Answered, at_place, evaluated, of_shape, fetched, fetch_at, whole_at, Address, PlaceTree, placed, SpecTree, Meaning, known_of}
+use Rattle.fx_zip.proofs.Prelude.{found_answer, Halt, answered, split, IsDescription, asked_at, asked_shape, IsTruth, value_needed, Says, Implements, Answers, same_rule, answers, Session, own_at, ticked}
+use Rattle.fx_spec.proofs.Shaped.{fetches_have_shapes, wholes_have_shapes}
+use Rattle.fx_zip.specs.declared.question.Question.{Question}
+use Rattle.fx_zip.specs.declared.question.Question.TheVariants as question
 use Rattle.fx_zip.proofs.Sessions.{tells_on, only_counts}
 
 -- an answer has the shape that the rule's answers have at each filestore
-pub asked_has : {R L : Type 0} (m : Meaning R) (was now : Session R L) (rule : Ask (Answered Tree)) (shape : ShapeTree) → ((S : Store) → IfOk (answer S rule) (λ v. ValueHas v shape)) → (r : Result Value Halt) → Answers m tree_of was now rule r → IfOk r (λ v. ValueHas (tree_of v) shape)
+asked_has : {R L : Type 0} (m : Meaning R) (was now : Session R L) (rule : Ask (Answered Tree)) (shape : ShapeTree) → ((S : Store) → IfOk (answer S rule) (λ v. ValueHas v shape)) → (r : Result Value Halt) → Answers m tree_of was now rule r → IfOk r (λ v. ValueHas (tree_of v) shape)
 asked_has m was now rule shape law (Err e) h = tt
 asked_has m was now rule shape law (Ok v) h =
     let known = known_of (m.reads now.reader.now) in
@@ -40,6 +16,11 @@ asked_has m was now rule shape law (Ok v) h =
     let agrees : AgreesWith known S = λ q n e. ap (λ (o : Option (Option Node)). unwrap_or o None) e in
     let is : answer (changed (own_at was.own) S) rule ≡ Ok (tree_of v) = found_answer known (own_at was.own) S agrees rule (Ok (tree_of v)) h.follows.goes.0 in
     subst (λ a. IfOk a (λ v. ValueHas v shape)) is (law (changed (own_at was.own) S))
+
+pub question_has : {R L : Type 0} (m : Meaning R) (was now : Session R L) (root : SpecTree) → IsDescription [] root → (a : Address) (q : Question) (r : Result Value Halt) → IfOk r (λ v. IsTruth q (tree_of v)) → Answers m tree_of was now (at_place root a (asked_at q)) r → IfOk r (λ v. ValueHas (tree_of v) (asked_shape q))
+question_has m was now root d a (question.Fetch shape) r truth h = asked_has m was now (at_place root a (fetch_at (shape_tree shape.now))) (shape_tree shape.now) (λ S. fetches_have_shapes root d S a (shape_tree shape.now)) r h
+question_has m was now root d a (question.Whole shape) r truth h = asked_has m was now (at_place root a (whole_at (shape_tree shape.now))) (shape_tree shape.now) (λ S. wholes_have_shapes root d S a (shape_tree shape.now)) r h
+question_has m was now root d a question.Validate r truth h = truth
 
 -- a rule is followed at the same place, seen in another way
 pub followed_here : {R L A X : Type 0} (m : Meaning R) (view : X → A) (was now : Session R L) (rule : PlaceTree → Ask (Answered A)) (r : Result X Halt) (p q : List (List ℕ)) (env e : Bindings) (s t : SpecTree) → p ≡ q → env ≡ e → s ≡ t → Answers m view was now (rule (placed p env s)) r → Answers m view was now (rule (placed q e t)) r

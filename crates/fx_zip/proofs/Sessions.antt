@@ -1,36 +1,11 @@
 -- What follows from a rule that was followed through a session, and calls that only count, or that consult nothing.
-use Rattle.std.proofs.Common.{◌≡◌, ℕ, List, ◌++◌, take, Option, Some, None, Result, Ok, Err, refl, sym, ap, ◌∙◌, subst, arith}
-use Rattle.std.specs.Prelude.{IfOk}
-use Rattle.std.specs.Option.{IfSome}
-use Rattle.fx_store.specs.Rule.{Known, Ask, Answer, Found, follow, changed, ◌>>=◌}
-use Rattle.fx_store.specs.Whole.{Store}
-use Rattle.fx_spec.specs.Describe.{Bindings}
-use Rattle.fx_spec.specs.Move.{Answered}
-use Rattle.fx_spec.specs.Place.{Step, Address, lead}
-use Rattle.fx_spec.specs.SpecTree.{SpecTree}
-use Rattle.fx_view.specs.declared.reader.Stop.{Stop}
+use Rattle.fx_zip.proofs.Prelude.{◌≡◌, ℕ, List, ◌++◌, take, Option, Some, None, Result, Ok, Err, refl, sym, ap, ◌∙◌, subst, arith, IfOk, IfSome, Known, Ask, Found, follow, changed, Store, Bindings, Answered, Step, Address, lead, SpecTree}
+use Rattle.fx_zip.proofs.Prelude.{Stop, Meaning, own_at, OwnList, ReadList, known_of, Agrees, Halt, Session, split, Implements, ticked_by, Entry, Frame, Spot, SaysFound, AreFound, IsFresh, Stands, IsFreshIn, StandsIn, LeadsToSpot, LeadsTo}
+use Rattle.fx_zip.proofs.Prelude.{LeadsAt, Enters, EntersAt, OnlyCounts, told, Says, TellsWithin, ZipTree}
 use Rattle.fx_view.specs.declared.reader.Stop.TheVariants as stop
 use Rattle.fx_view.specs.Follows.{GoesBy, walked}
-use Rattle.fx_view.specs.Meaning.{Meaning}
-use Rattle.fx_view.specs.Own.{own_at}
-use Rattle.fx_view.specs.OwnList.{OwnList}
-use Rattle.fx_view.specs.ReadList.{ReadList}
-use Rattle.fx_view.specs.Reads.{known_of, Agrees}
 use Rattle.fx_view.proofs.Calls.{agrees_by, went_by}
 use Rattle.fx_view.proofs.Going.{Went-none}
-use Rattle.fx_session.specs.declared.halt.Halt.{Halt}
-use Rattle.fx_session.specs.declared.session.Session.{Session}
-use Rattle.fx_session.specs.Halts.{split}
-use Rattle.fx_session.specs.Implements.{Implements, ticked_by}
-use Rattle.fx_session.proofs.Calls.{then_answers, stops, refused}
-use Rattle.fx_zip.specs.declared.frame.Entry.{Entry}
-use Rattle.fx_zip.specs.declared.frame.Frame.{Frame}
-use Rattle.fx_zip.specs.declared.frame.Spot.{Spot}
-use Rattle.fx_zip.specs.Calls.{SaysFound}
-use Rattle.fx_zip.specs.Fresh.{AreFound, IsFresh, Stands, IsFreshIn, StandsIn}
-use Rattle.fx_zip.specs.Spots.{LeadsToSpot, LeadsTo, LeadsAt, Enters, EntersAt}
-use Rattle.fx_zip.specs.Telling.{OnlyCounts, told, Says, TellsWithin}
-use Rattle.fx_zip.specs.Trees.{ZipTree}
 use Rattle.fx_zip.proofs.Standing.{found_grows, stands_grows, fresh_grows}
 use Rattle.fx_zip.proofs.Telling.{told_found, costs_ticks}
 
@@ -80,11 +55,6 @@ module _ {R L : Type 0} {m : Meaning R} where
         follows = record { goes = went_by m view (own_at old.own) old.reader.now new.reader.now rule r h.follows.goes; most = h.follows.most };
         lent = h.lent;
       }
-
-    -- an answer made of the rule's answer
-    pub mapped_on : {B : Type 0} {then_view : X → B} (f : A → B) {r : Result X Stop} → ((x : X) → f (view x) ≡ then_view x) → Implements m view old new rule r → Implements m then_view old new (rule >>= λ a. Answer (f a)) r
-    mapped_on f {r = Ok x} same h = then_answers rule (λ a. Answer (f a)) x h (ap Answer (same x))
-    mapped_on f {r = Err why} same h = stops rule (λ a. Answer (f a)) (Err why) refl h
 
 -- ---- calls that only count, or that consult nothing
 

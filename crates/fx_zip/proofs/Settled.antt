@@ -1,29 +1,13 @@
 -- Frames found one after another, from a start on.
-use Rattle.std.proofs.Common.{◌≡◌, ℕ, ◌+◌, List, [], ◌∷◌, ◌++◌, length, take, drop, Option, Some, None, Result, Ok, Err, refl, sym, ap, ◌∙◌, subst, arith, append_assoc, length-take}
-use Rattle.std.specs.Prelude.{slice_get}
-use Rattle.std.proofs.lemmas.Option.{slice_get_within}
-use Rattle.fx_spec.specs.Describe.{with_some}
+use Rattle.fx_zip.proofs.Prelude.{◌≡◌, ℕ, ◌+◌, List, [], ◌∷◌, ◌++◌, length, take, drop, Option, Some, None, Result, Ok, Err, refl, sym, ap, ◌∙◌, subst, arith, append_assoc, length-take, slice_get, slice_get_within, with_some, Address}
+use Rattle.fx_zip.proofs.Prelude.{PlaceTree, placed, lead, place, SpecTree, Stop, Meaning, Spot, IsSettling, AreFound, IsFreshIn, part, LeadsTo, kept_too, step_tree, turned, ZipTree, path_of, Implements, then_answers, then_on, stops}
+use Rattle.fx_zip.proofs.Prelude.{refused, Session, own_at}
 use Rattle.fx_spec.specs.Place as place
-use Rattle.fx_spec.specs.Place.{Address, PlaceTree, placed, lead, place}
-use Rattle.fx_spec.specs.SpecTree.{SpecTree}
-use Rattle.fx_view.specs.declared.reader.Stop.{Stop}
 use Rattle.fx_view.specs.declared.reader.Stop.TheVariants as stop
-use Rattle.fx_view.specs.Meaning.{Meaning}
-use Rattle.fx_zip.specs.declared.frame.Spot.{Spot}
 use Rattle.fx_zip.specs.declared.step.Step.{Step}
-use Rattle.fx_zip.specs.Calls.{IsSettling}
-use Rattle.fx_zip.specs.Fresh.{AreFound, IsFreshIn}
-use Rattle.fx_zip.specs.Parts.{part}
-use Rattle.fx_zip.specs.Spots.{LeadsTo, kept_too}
-use Rattle.fx_zip.specs.Steps.{step_tree, turned}
-use Rattle.fx_zip.specs.Trees.{ZipTree, path_of}
 use Rattle.fx_zip.proofs.Standing.{found_place, found_entered}
 use Rattle.fx_zip.proofs.Turning.{turned_at, length-turned, same_ends}
-use Rattle.fx_session.specs.Implements.{Implements}
-use Rattle.fx_session.proofs.Calls.{then_answers, then_on, stops, refused}
 use Rattle.fx_zip.proofs.Sessions.{frames_on, stops_as, found_on, memory_after, answers_as}
-use Rattle.fx_session.specs.declared.session.Session.{Session}
-use Rattle.fx_view.specs.Own.{own_at}
 
 -- the first step that has no frame
 pub record IsNext (ahead kept : Address) (step : place.Step) (before : Address) : Type 0 where

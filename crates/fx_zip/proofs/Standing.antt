@@ -1,33 +1,11 @@
 -- Zippers whose frames are found: what is known of their place, with more reads, one frame more, and one step less.
-use Rattle.fx_view.specs.ReadList.{ReadList}
-use Rattle.std.proofs.Common.{◌≡◌, ℕ, zero, suc, ◌<◌, true, false, cond, List, [], ◌∷◌, ◌++◌, length, take, drop, Option, Some, None, Ok, refl, sym, ap, ◌∙◌, subst, arith, length-append, take-append-drop}
-use Rattle.std.specs.Prelude.{nat_eq}
-use Rattle.std.specs.Option.{IfSome, unwrap_or}
+use Rattle.fx_zip.proofs.Prelude.{ReadList, ◌≡◌, ℕ, zero, suc, ◌<◌, true, false, cond, List, [], ◌∷◌, ◌++◌, length, take, drop, Option, Some, None, Ok, refl, sym, ap, ◌∙◌, subst, arith, length-append, take-append-drop, nat_eq, IfSome}
+use Rattle.fx_zip.proofs.Prelude.{unwrap_or, append-nil, eq-eqb, Node, Known, Found, follow, AgreesWith, answer, changed, Store, eval_of, ExprTree, set_answer, Bindings, with_some, Step, First, Second, Inside, Down, Body, Elem, Address}
+use Rattle.fx_zip.proofs.Prelude.{placed, lead, place, IsDescribedPlace, SpecTree, IsDescription, known_of, follow-bind, found_more, found_answer, HasScope, Frame, Spot, around, around_last, IsHeldSet, IsSetOf, AreFound, IsFresh, Stands}
+use Rattle.fx_zip.proofs.Prelude.{left, last_step, last_set, last_caller, is_element, set_behind, child, part, grown, framed, LeadsToSpot, entered, ZipTree, path_of, is_settled, IsSettled, here}
 use Rattle.std.proofs.lemmas.Bool.Decides.{nat_tests}
-use Rattle.std.proofs.lemmas.List.{append-nil}
-use Rattle.std.proofs.lemmas.Bool.{eq-eqb}
-use Rattle.fx_store.specs.declared.node.Node.{Node}
-use Rattle.fx_store.specs.Rule.{Known, Found, follow, AgreesWith, answer, changed}
-use Rattle.fx_store.specs.Whole.{Store}
-use Rattle.fx_expr.specs.Eval.{eval_of}
-use Rattle.fx_expr.specs.ExprTree.{ExprTree}
-use Rattle.fx_zip.specs.Telling.{set_answer}
-use Rattle.fx_spec.specs.Describe.{Bindings, with_some}
-use Rattle.fx_spec.specs.Place.{Step, First, Second, Inside, Down, Body, Elem, Address, placed, lead, place}
-use Rattle.fx_spec.specs.Shaped.{IsDescribedPlace}
-use Rattle.fx_spec.specs.SpecTree.{SpecTree}
-use Rattle.fx_spec.specs.WellShaped.{IsDescription}
 use Rattle.fx_spec.proofs.Shaped.{places_are_described}
 use Rattle.fx_view.proofs.Growing.{Grows, Grows-reads}
-use Rattle.fx_view.specs.Reads.{known_of}
-use Rattle.fx_view.proofs.Rules.{follow-bind, found_more, found_answer}
-use Rattle.fx_walk.specs.Scopes.{HasScope}
-use Rattle.fx_zip.specs.declared.frame.Frame.{Frame}
-use Rattle.fx_zip.specs.declared.frame.Spot.{Spot}
-use Rattle.fx_zip.specs.Fresh.{around, around_last, IsHeldSet, IsSetOf, AreFound, IsFresh, Stands, left, last_step, last_set, last_caller, is_element, set_behind}
-use Rattle.fx_zip.specs.Parts.{child, part}
-use Rattle.fx_zip.specs.Spots.{grown, framed, LeadsToSpot, entered}
-use Rattle.fx_zip.specs.Trees.{ZipTree, path_of, is_settled, IsSettled, here}
 
 -- ---- reads
 

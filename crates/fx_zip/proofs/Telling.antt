@@ -1,8 +1,5 @@
 -- Rules that consult nothing.
-use Rattle.std.proofs.Common.{◌≡◌, ◌≤◌, Some, ap, arith}
-use Rattle.fx_store.specs.Rule.{Known, Ask, Answer, Look, Tick, Found, follow, ticks}
-use Rattle.fx_store.specs.Whole.{Store}
-use Rattle.fx_zip.specs.Telling.{told, costs}
+use Rattle.fx_zip.proofs.Prelude.{◌≡◌, ◌≤◌, Some, ap, arith, Known, Ask, Answer, Look, Tick, Found, follow, ticks, Store, told, costs}
 
 pub told_found : {A : Type 0} (known own : Known) (rule : Ask A) (a : A) → told rule ≡ Some a → follow known own rule ≡ Found a
 told_found known own (Answer b) a e = let same : b ≡ a = cc in ap (λ b. Found b) same

@@ -1,13 +1,7 @@
 -- Lists with the last first.
-use Rattle.std.proofs.Common.{◌≡◌, ℕ, zero, suc, ◌+◌, ◌-◌, ◌<◌, ◌≤◌, List, [], ◌∷◌, ◌++◌, length, take, drop, true, false, Option, Some, None, refl, sym, ap, ◌∙◌, append_assoc, arith, length-append, length-drop}
-use Rattle.std.specs.Prelude.{slice_get, IsSome, MatchOption}
-use Rattle.fx_spec.specs.Describe.{Bindings}
-use Rattle.fx_zip.specs.declared.frame.Frame.{Frame}
-use Rattle.fx_zip.specs.Fresh.{last_set, last_caller}
-use Rattle.std.specs.Option.{option_to_list}
-use Rattle.std.proofs.lemmas.List.{take-append-drop}
+use Rattle.fx_zip.proofs.Prelude.{◌≡◌, ℕ, zero, suc, ◌+◌, ◌-◌, ◌<◌, ◌≤◌, List, [], ◌∷◌, ◌++◌, length, take, drop, true, false, Option, Some, None, refl, sym, ap, ◌∙◌, append_assoc, arith, length-append, length-drop, slice_get, IsSome}
+use Rattle.fx_zip.proofs.Prelude.{MatchOption, Bindings, Frame, last_set, last_caller, option_to_list, take-append-drop, turned_onto, turned}
 use Rattle.fx_base.proofs.Lists.{drop_next}
-use Rattle.fx_zip.specs.Steps.{turned_onto, turned}
 
 module _ {A B : Type 0} (f : A → B) where
   onto-append : (others : List B) (xs ys : List A) → turned_onto f others (xs ++ ys) ≡ turned_onto f (turned_onto f others xs) ys

@@ -1,31 +1,13 @@
 -- Accepted calls evaluate no more often than each by itself.
-use Rattle.std.proofs.Common.{◌≡◌, ℕ, ◌+◌, ◌≤◌, Bool, true, false, cond, List, [], ◌∷◌, Result, Ok, refl, sym, ap, ◌∙◌, subst, arith}
+use Rattle.fx_zip.proofs.Prelude.{◌≡◌, ℕ, ◌+◌, ◌≤◌, Bool, true, false, cond, List, [], ◌∷◌, Result, Ok, refl, sym, ap, ◌∙◌, subst, arith, Ask, answer, ticks, changed, Store, ShapeTree, tree_of, Value, Refusal, value, Answered, at_place}
+use Rattle.fx_zip.proofs.Prelude.{go_into, go_to, go_next, go_down, go_out, go_up, fetch_at, First, Second, Inside, Body, Elem, Address, place, from_place, Meaning, known_of, Agrees, found_answer, answered, Moves, settling_evals}
+use Rattle.fx_zip.proofs.Prelude.{place_evals, sideways_evals, AsksAtPlace, ZipTree, is_settled, IsSettled, Implements, Session, own_at, OwnList}
 use Rattle.std.specs.Str.{is_utf8, chars}
 use lib.Utf8.{encode}
-use Rattle.fx_store.specs.Rule.{Ask, answer, ticks, changed}
-use Rattle.fx_store.specs.Whole.{Store}
 use Rattle.fx_store.specs.Names.{is_name}
 use Rattle.fx_store.specs.Resolve.{resolve}
-use Rattle.fx_expr.specs.ShapeTree.{ShapeTree}
-use Rattle.fx_expr.specs.Views.{tree_of}
-use Rattle.fx_expr.specs.declared.value.Value.{Value}
-use Rattle.fx_spec.specs.declared.refusal.Refusal.{Refusal}
-use Rattle.fx_spec.specs.Describe.{value}
-use Rattle.fx_spec.specs.Move.{Answered, at_place, go_into, go_to, go_next, go_down, go_out, go_up, fetch_at}
-use Rattle.fx_spec.specs.Place.{First, Second, Inside, Body, Elem, Address, place}
 use Rattle.fx_spec.specs.Place as steps
-use Rattle.fx_spec.specs.Transaction.{from_place}
-use Rattle.fx_view.specs.Meaning.{Meaning}
-use Rattle.fx_view.specs.Reads.{known_of, Agrees}
-use Rattle.fx_view.proofs.Rules.{found_answer}
-use Rattle.fx_session.specs.Answering.{answered}
-use Rattle.fx_zip.specs.Calls.{Moves, settling_evals, place_evals, sideways_evals, AsksAtPlace}
-use Rattle.fx_zip.specs.Trees.{ZipTree, is_settled, IsSettled}
 use Rattle.fx_zip.specs.Worked.{Call, Into, To, Next, Down, Out, Up, Fetch, leads_to, still, call_evals, evals_at, where_accepted, calls_eval, IsUnreadMove, Accepts, Accept, CallsEvaluate, WalksInFive}
-use Rattle.fx_session.specs.Implements.{Implements}
-use Rattle.fx_session.specs.declared.session.Session.{Session}
-use Rattle.fx_view.specs.Own.{own_at}
-use Rattle.fx_view.specs.OwnList.{OwnList}
 use Rattle.fx_zip.proofs.Sessions.{agrees_on}
 
 -- what one accepted call comes to

@@ -113,7 +113,7 @@ SaysFound known own view rule (Ok x) = follow known own rule ≡ Found (view x)
 SaysFound known own view rule (Err stop.NoMemory) = Unit {0}
 SaysFound known own view rule (Err (stop.Needs p)) = ⊥
 
--- the same as `Turns`, where nothing is consulted
+-- the zipper turns as `Turns` says, and consults nothing
 pub record Turned (reads : ReadList) (own : Known) (old new : ZipTree) (rule : Ask (Answered Address)) (result : Result (Unit {0}) Halt) : Type 0 where
   pub says : SaysFound (known_of reads) own (answered (λ _. new.address)) rule (split result)
   pub stands : IfOk (split result) (λ _. Stands reads own new)

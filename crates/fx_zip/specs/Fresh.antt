@@ -62,7 +62,7 @@ pub record Stands (reads : ReadList) (own : Known) (z : ZipTree) : Type 0 where
   pub found : AreFound reads own z.root z.address z.frames z.env
   pub set : IsSetOf z.set z.env (part z.root z.address)
 
--- the same over what a session's reader knows, with its own changes on top
+-- the frames are found over what a session's reader knows, with its own changes on top
 abbrev pub IsFreshIn : {R L : Type 0} → Meaning R → Session R L → ZipTree → Type 0
 IsFreshIn m s z = IsFresh (m.reads s.reader.now) (own_at s.own) z
 

@@ -6,4 +6,5 @@ pub mod Telling
 pub mod Fresh
 pub mod Spots
 pub mod Calls
+pub mod Asking
 pub mod Worked

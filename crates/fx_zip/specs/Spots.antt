@@ -29,7 +29,7 @@ use Rattle.fx_zip.specs.Steps.{step_tree}
 use Rattle.fx_zip.specs.Telling.{Says, TellsWithin}
 use Rattle.fx_zip.specs.Trees.{ZipTree, path_of}
 
--- the names after a step: the same, one more, or others
+-- the names after a step: those before it, one more, or others
 abbrev pub grown : Bindings → Bound → Bindings
 grown env bounds.Nothing = env
 grown env (bounds.Name x v) = env ++ (x, tree_of v) ∷ []
@@ -98,7 +98,7 @@ pub record LeadsTo {R L : Type 0} (m : Meaning R) (step : Step) (p : List (List 
   pub follows : Implements m (option_map (spot_place env (child step spec))) was now (lead step p env spec) result
   pub spot : IfOk result (λ o. IfSome o (LeadsToSpot (m.reads now.reader.now) (own_at now.own) step p env spec))
 
--- the same of the first step that has no frame
+-- the call answers the spot to which the first step without a frame leads, where it leads to one
 pub record LeadsNext {R L : Type 0} (m : Meaning R) (z : ZipTree) (was now : Session R L) (result : Result (Option Spot) Stop) : Type 0 where
   pub ahead : Address
   pub step : Step
@@ -131,7 +131,7 @@ pub record EntersAt (rule : Address → Ask (Answered Address)) (p : List (List 
   pub tells : (a : Address) → TellsWithin (answered (λ e. step_tree e.step ∷ a)) was now (rule a) (split result)
   pub leads : (reads : ReadList) (own : Known) → IfOk result (λ e. LeadsToSpot reads own (step_tree e.step) p env spec e.spot)
 
--- the same by a move from the place
+-- the call answers the entry of the step that a move from the place adds
 abbrev pub EntersBy : {R L : Type 0} → Meaning R → (Address → List (List ℕ) → Bindings → SpecTree → Ask (Answered Address)) → List (List ℕ) → Bindings → SpecTree → Session R L → Session R L → Result Entry Halt → Type 0
 EntersBy m move p env spec was now result = Enters m (λ a. move a p env spec) p env spec was now result
 

@@ -1,7 +1,8 @@
-//! What is fetched at a place, its value, and whether there is one.
-ghost use Rattle.std.specs.Prelude.{◌≡◌, is_some};
+//! What is answered at a place: what is fetched, the value, or whether there is one.
+ghost use Rattle.std.specs.Prelude.{◌≡◌, IfOk, is_some};
 ghost use Rattle.std.specs.Option.{option_map};
-ghost use Rattle.fx_expr.specs.Tree.{Tree};
+ghost use Rattle.fx_expr.specs.ShapeTree.{ShapeTree};
+ghost use Rattle.fx_expr.specs.Shapes.{ValueHas};
 ghost use Rattle.fx_expr.specs.Views.{shape_tree, tree_of};
 ghost use Rattle.fx_spec.specs.Describe.{Bindings};
 ghost use Rattle.fx_spec.specs.Move as move;
@@ -10,9 +11,11 @@ ghost use Rattle.fx_spec.specs.SpecTree.{SpecTree};
 ghost use Rattle.fx_spec.specs.Parts.{part_of};
 ghost use Rattle.fx_session.specs.Implements.{Answers};
 ghost use Rattle.fx_walk.specs.Scopes.{HasScope};
+ghost use Rattle.fx_zip.specs.Asking.{asked_at, IsTruth};
 ghost use Rattle.fx_zip.specs.Calls.{value_needed};
 
 use crate::evaluating::evaluate;
+use crate::question::Question;
 use crate::shapes::{asks_flag, has_fetch_shape, has_value_shape};
 use fx_expr::{Env, Shape, Value};
 use fx_session::{Halt, Session};
@@ -22,8 +25,29 @@ use fx_view::Reader;
 use fx_walk::{exists, file_flag, value_in};
 use std::sync::ledger::Ledger;
 
+/// The answer to a question at a place. The environment is as before on every way out.
+pub(crate) fn answer_at<R: Reader, L: Ledger>(
+    session: &mut Session<'_, R, L>,
+    path: &Path,
+    env: &mut Env,
+    spec: &Part<'_>,
+    question: &Question<'_>,
+) -> Result<Value, Halt>
+    requires described { HasScope env.old (part_of spec.now) }
+    ensures env { env.new ≡ env.old }
+    ensures follows { Answers R.meaning tree_of session.old session.new
+        (asked_at question.now (placed path.now env.old (part_of spec.now))) result }
+    ensures truth { IfOk result (λ value. IsTruth question.now (tree_of value)) }
+{
+    match question {
+        Question::Fetch(shape) => fetch_at(session, path, env, spec, shape),
+        Question::Whole(shape) => whole_at(session, path, env, spec, shape),
+        Question::Validate => validate_at(session, path, env, spec),
+    }
+}
+
 /// What the form gives, where that has the shape; a file gives its flag too. The environment is as before on every way out.
-pub(crate) fn fetch_at<R: Reader, L: Ledger>(
+fn fetch_at<R: Reader, L: Ledger>(
     session: &mut Session<'_, R, L>,
     path: &Path,
     env: &mut Env,
@@ -46,7 +70,7 @@ pub(crate) fn fetch_at<R: Reader, L: Ledger>(
 }
 
 /// The value of the description, where that has the shape. The environment is as before on every way out.
-pub(crate) fn whole_at<R: Reader, L: Ledger>(
+fn whole_at<R: Reader, L: Ledger>(
     session: &mut Session<'_, R, L>,
     path: &Path,
     env: &mut Env,
@@ -67,19 +91,20 @@ pub(crate) fn whole_at<R: Reader, L: Ledger>(
 }
 
 /// Whether the description has a value. The environment is as before on every way out.
-pub(crate) fn validate_at<R: Reader, L: Ledger>(
+fn validate_at<R: Reader, L: Ledger>(
     session: &mut Session<'_, R, L>,
     path: &Path,
     env: &mut Env,
     spec: &Part<'_>,
-) -> Result<bool, Halt>
+) -> Result<Value, Halt>
     requires described { HasScope env.old (part_of spec.now) }
     ensures env { env.new ≡ env.old }
-    ensures follows { Answers R.meaning (λ b. Tree.bool b) session.old session.new
+    ensures follows { Answers R.meaning tree_of session.old session.new
         (move.validate_at (placed path.now env.old (part_of spec.now))) result }
+    ensures truth { IfOk result (λ value. ValueHas (tree_of value) ShapeTree.bool) }
 {
     let value = value_in(session, path, env, spec)?;
-    Ok(is_there(value))
+    Ok(Value::Bool(is_there(value)))
 }
 
 fn fetched<R: Reader, L: Ledger>(

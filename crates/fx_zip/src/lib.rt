@@ -12,10 +12,12 @@ mod leading;
 mod moves;
 mod moving;
 mod part;
+mod question;
 mod settling;
 mod shapes;
 mod sideways;
 mod step;
 mod zip;
 
+pub use question::Question;
 pub use zip::Zip;

@@ -53,7 +53,7 @@ pub(crate) fn has_value_shape(spec: &Part<'_>, shape: &Shape) -> bool
     has_written_shape(spec.spec, shape)
 }
 
-/// The same of a description as it is written: what its calls mean makes no difference.
+/// Whether the value of a description has the shape, as it is written. What its calls mean makes no difference.
 fn has_written_shape(spec: &Spec, shape: &Shape) -> bool
     ensures { result ≡ move.same_shape (written_shape (spec_tree spec.now))
         (shape_tree shape.now) }

@@ -7,6 +7,7 @@ use crate::verbs::{Edit, Move, Question};
 use crate::walk::Walk;
 use fx_expr::{Shape, Text, Value};
 use fx_session::Halt;
+use fx_zip::Question as Asked;
 use std::sync::ledger::Ledger;
 
 /// Moves; `text` is the element of `to`.
@@ -38,13 +39,15 @@ pub fn ask<L: Ledger>(
     requires ready { IsReadyWalk walk.old }
     ensures ready { IfOk (split result) (λ _. IsReadyWalk walk.new) }
 {
+    let asked = question_of(question, shape);
+    walk.zip.ask(&mut walk.session, &asked)
+}
+
+fn question_of(question: Question, shape: &Shape) -> Asked<'_> {
     match question {
-        Question::Fetch => walk.zip.fetch(&mut walk.session, shape),
-        Question::Value => walk.zip.whole(&mut walk.session, shape),
-        Question::Validate => {
-            let valid = walk.zip.validate(&mut walk.session)?;
-            Ok(Value::Bool(valid))
-        }
+        Question::Fetch => Asked::Fetch(shape),
+        Question::Value => Asked::Whole(shape),
+        Question::Validate => Asked::Validate,
     }
 }
 

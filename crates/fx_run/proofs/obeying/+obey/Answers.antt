@@ -54,22 +54,22 @@ pub obey-returns-in-Assign-clause-scope : goal.obey-returns-in-Assign-clause-sco
 obey-returns-in-Assign-clause-scope g t c = scopes_as c.args.command.now (Command.Assign c.in-Assign.word c.in-Assign.expr) c.in-Assign.is c.args.work.now.variables c.assign.new.work.variables c.assign.result c.assign.ensures.scope
 
 pub obey-returns-in-Fetch-clause-obeys : goal.obey-returns-in-Fetch-clause-obeys
-obey-returns-in-Fetch-clause-obeys g t c = obeys_as c.args.command.now (Command.Fetch c.in-Fetch.word c.in-Fetch.shape) c.in-Fetch.is c.args.number c.fetch.ensures.obeys
+obey-returns-in-Fetch-clause-obeys g t c = obeys_as c.args.command.now (Command.Fetch c.in-Fetch.word c.in-Fetch.shape) c.in-Fetch.is c.args.number c.ask.ensures.obeys
 
 pub obey-returns-in-Fetch-clause-scope : goal.obey-returns-in-Fetch-clause-scope
-obey-returns-in-Fetch-clause-scope g t c = scopes_as c.args.command.now (Command.Fetch c.in-Fetch.word c.in-Fetch.shape) c.in-Fetch.is c.args.work.now.variables c.fetch.new.work.variables c.fetch.result c.fetch.ensures.scope
+obey-returns-in-Fetch-clause-scope g t c = scopes_as c.args.command.now (Command.Fetch c.in-Fetch.word c.in-Fetch.shape) c.in-Fetch.is c.args.work.now.variables c.ask.new.work.variables c.ask.result c.ask.ensures.scope
 
 pub obey-returns-in-Whole-clause-obeys : goal.obey-returns-in-Whole-clause-obeys
-obey-returns-in-Whole-clause-obeys g t c = obeys_as c.args.command.now (Command.Whole c.in-Whole.word c.in-Whole.shape) c.in-Whole.is c.args.number c.whole.ensures.obeys
+obey-returns-in-Whole-clause-obeys g t c = obeys_as c.args.command.now (Command.Whole c.in-Whole.word c.in-Whole.shape) c.in-Whole.is c.args.number c.ask-in-Whole.ensures.obeys
 
 pub obey-returns-in-Whole-clause-scope : goal.obey-returns-in-Whole-clause-scope
-obey-returns-in-Whole-clause-scope g t c = scopes_as c.args.command.now (Command.Whole c.in-Whole.word c.in-Whole.shape) c.in-Whole.is c.args.work.now.variables c.whole.new.work.variables c.whole.result c.whole.ensures.scope
+obey-returns-in-Whole-clause-scope g t c = scopes_as c.args.command.now (Command.Whole c.in-Whole.word c.in-Whole.shape) c.in-Whole.is c.args.work.now.variables c.ask-in-Whole.new.work.variables c.ask-in-Whole.result c.ask-in-Whole.ensures.scope
 
 pub obey-returns-in-Validate-clause-obeys : goal.obey-returns-in-Validate-clause-obeys
-obey-returns-in-Validate-clause-obeys g t c = obeys_as c.args.command.now (Command.Validate c.in-Validate.word) c.in-Validate.is c.args.number c.validate.ensures.obeys
+obey-returns-in-Validate-clause-obeys g t c = obeys_as c.args.command.now (Command.Validate c.in-Validate.word) c.in-Validate.is c.args.number c.ask-in-Validate.ensures.obeys
 
 pub obey-returns-in-Validate-clause-scope : goal.obey-returns-in-Validate-clause-scope
-obey-returns-in-Validate-clause-scope g t c = scopes_as c.args.command.now (Command.Validate c.in-Validate.word) c.in-Validate.is c.args.work.now.variables c.validate.new.work.variables c.validate.result c.validate.ensures.scope
+obey-returns-in-Validate-clause-scope g t c = scopes_as c.args.command.now (Command.Validate c.in-Validate.word) c.in-Validate.is c.args.work.now.variables c.ask-in-Validate.new.work.variables c.ask-in-Validate.result c.ask-in-Validate.ensures.scope
 
 pub obey-print-requires : goal.obey-print-requires
 obey-print-requires g t c = comes_as c.args.command.now (Command.Print c.in-Print.expr) c.in-Print.is c.args.work.now.variables c.requires.shaped

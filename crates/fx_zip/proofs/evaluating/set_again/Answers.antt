@@ -1,5 +1,4 @@
-use Rattle.std.proofs.Common.{◌≡◌, Some, Ok, sym, ap, ◌∙◌, rules}
-use Rattle.std.specs.Option.{option_copied}
+use Rattle.fx_zip.proofs.Prelude.{◌≡◌, Some, Ok, sym, ap, ◌∙◌, rules, option_copied}
 use Rattle.fx_zip.proofs.evaluating.set_again.Goals as goal
 
 pub returns-in_ok-copy-in-Some-clause-set : goal.returns-in_ok-copy-in-Some-clause-set

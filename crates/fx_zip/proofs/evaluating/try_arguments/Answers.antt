@@ -1,5 +1,4 @@
-use Rattle.std.proofs.Common.{◌≡◌, length, Some, refl, ap, arith}
-use Rattle.fx_expr.specs.Views.{tree_of}
+use Rattle.fx_zip.proofs.Prelude.{◌≡◌, length, Some, refl, ap, arith, tree_of}
 use Rattle.fx_zip.proofs.Arguments.{shaped_at, try_first, try_next, try_fails, few_tried, all_tried, few_in_all}
 use Rattle.fx_zip.proofs.Sessions.{counts_on}
 use Rattle.fx_zip.proofs.evaluating.try_arguments.Goals as goal

@@ -1,4 +1,4 @@
-use Rattle.fx_zip.specs.Telling.{OnlyCounts}
+use Rattle.fx_zip.proofs.Prelude.{OnlyCounts}
 use Rattle.fx_zip.proofs.Arguments.{IsTrying}
 use Rattle.fx_zip.proofs.evaluating.try_arguments.Given as goal
 

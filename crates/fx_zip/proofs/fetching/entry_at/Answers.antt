@@ -1,13 +1,7 @@
-use Rattle.std.proofs.Common.{◌≡◌, Ok, sym, ap, rules}
-use Rattle.fx_store.specs.Rule.{Answer}
-use Rattle.fx_expr.specs.Tree.{Tree}
-use Rattle.fx_expr.specs.Views.{tree_of}
+use Rattle.fx_zip.proofs.Prelude.{◌≡◌, Ok, sym, ap, rules, Answer, Tree, tree_of, exists, stop_halts, then_answers}
 use Rattle.fx_expr.specs.declared.value.Value as values
 use Rattle.fx_expr.specs.declared.value.Value.TheVariants.{Bool}
-use Rattle.fx_spec.specs.Describe.{exists}
-use Rattle.fx_session.proofs.Halting.{stop_halts}
 use Rattle.fx_zip.proofs.fetching.entry_at.Goals as goal
-use Rattle.fx_session.proofs.Calls.{then_answers}
 
 pub returns-in_err-there : goal.returns-in_err-there
 returns-in_err-there g c = record {

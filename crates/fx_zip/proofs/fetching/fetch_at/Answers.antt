@@ -1,8 +1,4 @@
-use Rattle.std.proofs.Common.{Err, sym, ◌∙◌}
-use Rattle.fx_expr.specs.Views.{shape_tree}
-use Rattle.fx_spec.specs.declared.refusal.Refusal.{Refusal}
-use Rattle.fx_spec.specs.Move.{asks_flag, flag_at, fetched, has_fetch_shape, fetch_shape, of_shape}
-use Rattle.fx_spec.specs.Parts.{part_of}
+use Rattle.fx_zip.proofs.Prelude.{Err, sym, ◌∙◌, shape_tree, Refusal, asks_flag, flag_at, fetched, has_fetch_shape, fetch_shape, of_shape, part_of}
 use Rattle.fx_session.specs.declared.halt.Halt.TheVariants as halt
 use Rattle.fx_zip.proofs.Questions.{flag_follows, form_follows, shaped_follows, misshaped}
 use Rattle.fx_zip.proofs.fetching.fetch_at.Goals as goal

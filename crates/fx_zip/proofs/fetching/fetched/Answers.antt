@@ -1,14 +1,6 @@
-use Rattle.std.proofs.Common.{◌≡◌, Err, refl, sym, ap}
-use Rattle.fx_store.specs.Rule.{Answer}
-use Rattle.fx_expr.specs.Eval.{eval_of}
-use Rattle.fx_spec.specs.declared.refusal.Refusal.{Refusal}
-use Rattle.fx_spec.specs.Move.{fetched}
-use Rattle.fx_spec.specs.SpecTree.{SpecTree}
-use Rattle.fx_spec.specs.Parts.{part_of}
-use Rattle.fx_zip.specs.Calls.{value_needed}
+use Rattle.fx_zip.proofs.Prelude.{◌≡◌, Err, refl, sym, ap, Answer, eval_of, Refusal, fetched, SpecTree, part_of, value_needed, same_rule, answers}
 use Rattle.fx_zip.proofs.Questions.{file_fetched, dir_fetched, link_fetched, evaluated_follows}
 use Rattle.fx_zip.proofs.fetching.fetched.Goals as goal
-use Rattle.fx_session.proofs.Calls.{same_rule, answers}
 
 pub returns-in-File-clause-follows : goal.returns-in-File-clause-follows
 returns-in-File-clause-follows g c =

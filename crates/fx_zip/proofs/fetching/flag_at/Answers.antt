@@ -1,14 +1,5 @@
-use Rattle.std.proofs.Common.{true, Ok, Err, refl, subst}
-use Rattle.std.specs.Option.{option_map}
-use Rattle.fx_store.specs.Rule.{Answer}
-use Rattle.fx_expr.specs.Views.{tree_of}
-use Rattle.fx_spec.specs.declared.refusal.Refusal.{Refusal}
-use Rattle.fx_spec.specs.Describe.{content, flag_value}
-use Rattle.fx_spec.specs.Move.{needed}
-use Rattle.fx_session.proofs.Halting.{stop_halts}
+use Rattle.fx_zip.proofs.Prelude.{true, Ok, Err, refl, subst, option_map, Answer, tree_of, Refusal, content, flag_value, needed, stop_halts, Implements, then_answers}
 use Rattle.fx_zip.proofs.fetching.flag_at.Goals as goal
-use Rattle.fx_session.specs.Implements.{Implements}
-use Rattle.fx_session.proofs.Calls.{then_answers}
 
 pub returns-in_err-flag : goal.returns-in_err-flag
 returns-in_err-flag g c = record {

@@ -1,15 +1,5 @@
-use Rattle.std.proofs.Common.{Ok, Err, refl, subst}
-use Rattle.std.specs.Option.{option_map}
-use Rattle.fx_store.specs.Rule.{Answer}
-use Rattle.fx_expr.specs.Views.{tree_of}
-use Rattle.fx_spec.specs.declared.refusal.Refusal.{Refusal}
-use Rattle.fx_spec.specs.Describe.{value}
-use Rattle.fx_spec.specs.Move.{needed}
-use Rattle.fx_spec.specs.Parts.{part_of}
-use Rattle.fx_session.proofs.Halting.{stop_halts}
+use Rattle.fx_zip.proofs.Prelude.{Ok, Err, refl, subst, option_map, Answer, tree_of, Refusal, value, needed, part_of, stop_halts, Implements, then_answers}
 use Rattle.fx_zip.proofs.fetching.value_at.Goals as goal
-use Rattle.fx_session.specs.Implements.{Implements}
-use Rattle.fx_session.proofs.Calls.{then_answers}
 
 pub returns-in_err-value-clause-follows : goal.returns-in_err-value-clause-follows
 returns-in_err-value-clause-follows g c =

@@ -1,8 +1,4 @@
-use Rattle.std.proofs.Common.{sym, ◌∙◌}
-use Rattle.fx_expr.specs.Views.{shape_tree}
-use Rattle.fx_spec.specs.Move.{same_shape, value_shape}
-use Rattle.fx_spec.specs.Parts.{part_of}
-use Rattle.fx_zip.specs.Calls.{value_needed}
+use Rattle.fx_zip.proofs.Prelude.{sym, ◌∙◌, shape_tree, same_shape, value_shape, part_of, value_needed}
 use Rattle.fx_zip.proofs.Questions.{shaped_follows, misshaped}
 use Rattle.fx_zip.proofs.fetching.whole_at.Goals as goal
 

@@ -1,10 +1,4 @@
-use Rattle.std.proofs.Common.{◌≡◌, Ok, Err, sym, ap, ◌∙◌, subst}
-use Rattle.std.specs.Prelude.{IsErrAnd}
-use Rattle.fx_spec.specs.declared.refusal.Refusal.{Refusal}
-use Rattle.fx_spec.specs.Describe.{Bindings}
-use Rattle.fx_spec.specs.Parts.{part_of}
-use Rattle.fx_walk.specs.Arguments.{inner_names}
-use Rattle.fx_zip.specs.Telling.{names_answer}
+use Rattle.fx_zip.proofs.Prelude.{◌≡◌, Ok, Err, sym, ap, ◌∙◌, subst, IsErrAnd, Refusal, Bindings, part_of, inner_names, names_answer}
 use Rattle.fx_zip.proofs.Leads.{given_some, given_none, given_stop, body_refused, body_leads, body_none, body_form}
 use Rattle.fx_zip.proofs.leading.body.Goals as goal
 

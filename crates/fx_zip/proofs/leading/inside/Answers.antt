@@ -1,8 +1,6 @@
-use Rattle.std.proofs.Common.{length, ap}
-use Rattle.fx_spec.specs.Parts.{part_of}
+use Rattle.fx_zip.proofs.Prelude.{length, ap, part_of, ◌∙◌}
 use Rattle.fx_zip.proofs.Consulting.{inside_stops, inside_memory, inside_leads, inside_none, inside_form}
 use Rattle.fx_zip.proofs.leading.inside.Goals as goal
-use Rattle.std.proofs.Common.{◌∙◌}
 
 pub returns-in_err-exists-in-Some : goal.returns-in_err-exists-in-Some
 returns-in_err-exists-in-Some g c = record {

@@ -1,7 +1,4 @@
-use Rattle.std.proofs.Common.{sym, subst, refl}
-use Rattle.fx_spec.specs.Parts.{part_of}
-use Rattle.fx_zip.specs.Spots.{LeadsTo}
-use Rattle.fx_zip.specs.Steps.{step_tree}
+use Rattle.fx_zip.proofs.Prelude.{sym, subst, refl, part_of, LeadsTo, step_tree}
 use Rattle.fx_zip.proofs.Sessions.{leads_of}
 use Rattle.fx_zip.proofs.leading.led.Goals as goal
 

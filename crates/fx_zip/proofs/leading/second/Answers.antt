@@ -1,4 +1,4 @@
-use Rattle.fx_spec.specs.Parts.{part_of}
+use Rattle.fx_zip.proofs.Prelude.{part_of}
 use Rattle.fx_zip.proofs.Consulting.{second_leads, second_form}
 use Rattle.fx_zip.proofs.leading.second.Goals as goal
 

@@ -1,6 +1,4 @@
-use Rattle.std.proofs.Common.{◌≡◌, Ok, refl}
-use Rattle.fx_walk.specs.Arguments.{inner_names}
-use Rattle.fx_zip.specs.Telling.{names_answer}
+use Rattle.fx_zip.proofs.Prelude.{◌≡◌, Ok, refl, inner_names, names_answer}
 use Rattle.fx_zip.proofs.Entering.{body_enters, body_err, body_memory}
 use Rattle.fx_zip.proofs.moving.body.Goals as goal
 

@@ -1,5 +1,4 @@
-use Rattle.std.proofs.Common.{length, ap}
-use Rattle.std.proofs.Common.{refl, ◌∙◌}
+use Rattle.fx_zip.proofs.Prelude.{length, ap, refl, ◌∙◌}
 use Rattle.fx_zip.proofs.Consulting.{entry_stops, entry_memory, entry_inside, entry_lacks}
 use Rattle.fx_zip.proofs.moving.inside.Goals as goal
 

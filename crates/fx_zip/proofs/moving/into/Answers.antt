@@ -1,8 +1,4 @@
-use Rattle.std.proofs.Common.{refl, subst}
-use Rattle.std.specs.Option.{option_copied}
-use Rattle.fx_spec.specs.SpecTree.{SpecTree}
-use Rattle.fx_spec.specs.Parts.{part_of}
-use Rattle.fx_walk.specs.Scopes.{HasScope}
+use Rattle.fx_zip.proofs.Prelude.{refl, subst, option_copied, SpecTree, part_of, HasScope}
 use Rattle.fx_zip.proofs.Arguments.{call_shapes, last_shapes}
 use Rattle.fx_zip.proofs.Entering.{enters_form, none_from}
 use Rattle.fx_zip.proofs.Standing.{kept_set}

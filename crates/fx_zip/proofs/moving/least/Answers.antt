@@ -1,11 +1,4 @@
-use Rattle.std.proofs.Common.{◌≡◌, Ok, refl}
-use Rattle.std.specs.Option.{option_copied}
-use Rattle.fx_text.proofs.Chosen.{has_least}
-use Rattle.fx_expr.specs.Eval.{eval_of}
-use Rattle.fx_expr.specs.Sets.{least}
-use Rattle.fx_spec.specs.Move.{go_into}
-use Rattle.fx_spec.specs.SpecTree.{SpecTree}
-use Rattle.fx_zip.specs.Telling.{set_answer}
+use Rattle.fx_zip.proofs.Prelude.{◌≡◌, Ok, refl, option_copied, has_least, eval_of, least, go_into, SpecTree, set_answer}
 use Rattle.fx_zip.proofs.Entering.{chosen_enters}
 use Rattle.fx_zip.proofs.moving.least.Goals as goal
 

@@ -1,10 +1,4 @@
-use Rattle.std.proofs.Common.{◌≡◌, Ok, ap, ◌∙◌}
-use Rattle.std.specs.Option.{option_copied}
-use Rattle.fx_expr.specs.Eval.{eval_of}
-use Rattle.fx_expr.specs.Sets.{has_text}
-use Rattle.fx_spec.specs.Move.{go_to, this_if}
-use Rattle.fx_spec.specs.Parts.{part_of}
-use Rattle.fx_zip.specs.Telling.{set_answer}
+use Rattle.fx_zip.proofs.Prelude.{◌≡◌, Ok, ap, ◌∙◌, option_copied, eval_of, has_text, go_to, this_if, part_of, set_answer}
 use Rattle.fx_zip.proofs.Consulting.{has_asked}
 use Rattle.fx_zip.proofs.Entering.{chosen_enters}
 use Rattle.fx_zip.proofs.Standing.{kept_set}

@@ -1,6 +1,4 @@
-use Rattle.std.proofs.Common.{◌≡◌, Ok}
-use Rattle.fx_spec.specs.Describe.{arguments}
-use Rattle.fx_zip.specs.Telling.{arguments_tried}
+use Rattle.fx_zip.proofs.Prelude.{◌≡◌, Ok, arguments, arguments_tried}
 use Rattle.fx_zip.proofs.Arguments.{said_all}
 use Rattle.fx_zip.proofs.Entering.{last_refused, last_err}
 use Rattle.fx_zip.proofs.moving.too_unfolded.Goals as goal

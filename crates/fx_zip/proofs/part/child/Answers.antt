@@ -1,7 +1,5 @@
-use Rattle.std.proofs.Common.{sym, ap, ◌∙◌}
-use Rattle.fx_spec.specs.Parts.{part_of}
+use Rattle.fx_zip.proofs.Prelude.{sym, ap, ◌∙◌, part_of, step_tree}
 use Rattle.fx_zip.specs.Parts as parts
-use Rattle.fx_zip.specs.Steps.{step_tree}
 use Rattle.fx_zip.proofs.part.child.Goals as goal
 
 pub returns-in-Elem-clause-part : goal.returns-in-Elem-clause-part

@@ -1,8 +1,4 @@
-use Rattle.std.proofs.Common.{◌≡◌, ◌++◌, ◌∷◌, [], ◌+◌, ◌<◌, length, take, refl, sym, ap, ◌∙◌, rules}
-use Rattle.std.proofs.lemmas.List.{take_more}
-use Rattle.fx_spec.specs.Parts.{part_of}
-use Rattle.fx_zip.specs.Parts.{child, part}
-use Rattle.fx_zip.specs.Steps.{step_tree, turned}
+use Rattle.fx_zip.proofs.Prelude.{◌≡◌, ◌++◌, ◌∷◌, [], ◌+◌, ◌<◌, length, take, refl, sym, ap, ◌∙◌, rules, take_more, part_of, child, part, step_tree, turned}
 use Rattle.fx_zip.proofs.Turning.{turned-last}
 use Rattle.fx_zip.proofs.part.part.Goals as goal
 

@@ -1,7 +1,4 @@
-use Rattle.std.proofs.Common.{◌≡◌, take}
-use Rattle.fx_spec.specs.Parts.{part_of}
-use Rattle.fx_zip.specs.Parts.{part}
-use Rattle.fx_zip.specs.Steps.{step_tree, turned}
+use Rattle.fx_zip.proofs.Prelude.{◌≡◌, take, part_of, part, step_tree, turned}
 use Rattle.fx_zip.proofs.part.part.Given as goal
 
 abbrev pub invariant-loop-step : goal.invariant-loop-step

@@ -1,7 +1,4 @@
-use Rattle.std.proofs.Common.{sym, ap, ◌∙◌, drop}
-use Rattle.fx_spec.specs.Parts.{part_of}
-use Rattle.fx_zip.specs.Parts.{part}
-use Rattle.fx_zip.specs.Steps.{step_tree, turned}
+use Rattle.fx_zip.proofs.Prelude.{sym, ap, ◌∙◌, drop, part_of, part, step_tree, turned}
 use Rattle.fx_zip.proofs.Turning.{turned-last}
 use Rattle.fx_zip.proofs.part.part_around.Goals as goal
 

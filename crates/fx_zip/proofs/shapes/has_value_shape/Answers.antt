@@ -1,6 +1,4 @@
-use Rattle.std.proofs.Common.{◌-◌, sym, ap, ◌∙◌}
-use Rattle.fx_expr.specs.Views.{shape_tree}
-use Rattle.fx_spec.specs.Move.{same_shape}
+use Rattle.fx_zip.proofs.Prelude.{◌-◌, sym, ap, ◌∙◌, shape_tree, same_shape}
 use Rattle.fx_spec.specs.Views.{spec_tree}
 use Rattle.fx_spec.specs.Written.{names_in}
 use Rattle.fx_spec.proofs.Meaning.{shape_meant}

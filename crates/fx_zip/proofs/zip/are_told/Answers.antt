@@ -1,6 +1,4 @@
-use Rattle.std.proofs.Common.{◌+◌, ◌++◌, ◌∷◌, [], ◌<◌, ◌≤◌, length, take, refl, sym, ap, ◌∙◌, rules}
-use Rattle.std.proofs.lemmas.List.{take_more}
-use Rattle.std.proofs.lemmas.Option.{slice_get_read}
+use Rattle.fx_zip.proofs.Prelude.{◌+◌, ◌++◌, ◌∷◌, [], ◌<◌, ◌≤◌, length, take, refl, sym, ap, ◌∙◌, rules, take_more, slice_get_read}
 use Rattle.fx_zip.proofs.Lasting.{not_told, told_more}
 use Rattle.fx_zip.proofs.zip.are_told.Goals as goal
 

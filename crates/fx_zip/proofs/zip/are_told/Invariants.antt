@@ -1,6 +1,4 @@
-use Rattle.std.proofs.Common.{◌≡◌, take, true}
-use Rattle.fx_zip.specs.Fresh.{are_told}
-use Rattle.fx_zip.specs.Steps.{turned}
+use Rattle.fx_zip.proofs.Prelude.{◌≡◌, take, true, are_told, turned}
 use Rattle.fx_zip.proofs.zip.are_told.Given as goal
 
 abbrev pub invariant-loop-frame : goal.invariant-loop-frame

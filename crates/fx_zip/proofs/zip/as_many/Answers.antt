@@ -1,5 +1,4 @@
-use Rattle.std.proofs.Common.{rules}
-use Rattle.fx_zip.specs.Steps.{step_tree}
+use Rattle.fx_zip.proofs.Prelude.{rules, step_tree}
 use Rattle.fx_zip.proofs.Turning.{length-turned}
 use Rattle.fx_zip.proofs.zip.as_many.Goals as goal
 

@@ -1,6 +1,4 @@
-use Rattle.std.proofs.Common.{◌≡◌, option_map, sym, ap, ◌∙◌, subst}
-use Rattle.fx_zip.specs.Fresh.{last_set}
-use Rattle.fx_zip.specs.Steps.{turned}
+use Rattle.fx_zip.proofs.Prelude.{◌≡◌, option_map, sym, ap, ◌∙◌, subst, last_set, turned}
 use Rattle.fx_zip.proofs.Turning.{turned-last}
 use Rattle.fx_zip.proofs.zip.held_set.Goals as goal
 

@@ -1,6 +1,4 @@
-use Rattle.std.proofs.Common.{sym, ap, ◌∙◌}
-use Rattle.fx_zip.specs.Fresh.{last_step}
-use Rattle.fx_zip.specs.Steps.{step_tree, turned}
+use Rattle.fx_zip.proofs.Prelude.{sym, ap, ◌∙◌, last_step, step_tree, turned}
 use Rattle.fx_zip.proofs.Turning.{turned-last}
 use Rattle.fx_zip.proofs.zip.last_step_of.Goals as goal
 

@@ -1,6 +1,4 @@
-use Rattle.std.proofs.Common.{sym, ap, ◌∙◌, drop}
-use Rattle.fx_zip.specs.Steps.{turned}
-use Rattle.fx_zip.specs.Trees.{path_of}
+use Rattle.fx_zip.proofs.Prelude.{sym, ap, ◌∙◌, drop, turned, path_of}
 use Rattle.fx_zip.proofs.Turning.{turned-last}
 use Rattle.fx_zip.proofs.zip.path_around.Goals as goal
 

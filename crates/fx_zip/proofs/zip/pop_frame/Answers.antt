@@ -1,4 +1,4 @@
-use Rattle.std.proofs.Common.{arith}
+use Rattle.fx_zip.proofs.Prelude.{arith}
 use Rattle.fx_zip.proofs.Turning.{popped, popped_set, popped_caller}
 use Rattle.fx_zip.proofs.zip.pop_frame.Goals as goal
 

@@ -1,5 +1,4 @@
-use Rattle.std.proofs.Common.{arith}
-use Rattle.fx_zip.specs.Steps.{step_tree}
+use Rattle.fx_zip.proofs.Prelude.{arith, step_tree}
 use Rattle.fx_zip.proofs.Turning.{popped}
 use Rattle.fx_zip.proofs.zip.pop_step.Goals as goal
 

@@ -1,5 +1,4 @@
-use Rattle.std.proofs.Common.{◌≡◌, ◌++◌, ◌∷◌, [], ap, ◌∙◌, rules}
-use Rattle.fx_zip.specs.Steps.{step_tree, turned}
+use Rattle.fx_zip.proofs.Prelude.{◌≡◌, ◌++◌, ◌∷◌, [], ap, ◌∙◌, rules, step_tree, turned}
 use Rattle.fx_zip.proofs.Turning.{turned-last}
 use Rattle.fx_zip.proofs.zip.push_step.Goals as goal
 

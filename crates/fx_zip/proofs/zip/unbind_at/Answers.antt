@@ -1,6 +1,4 @@
-use Rattle.std.proofs.Common.{ap, ◌∙◌}
-use Rattle.fx_zip.specs.Fresh.{around_last}
-use Rattle.fx_zip.specs.Steps.{step_tree}
+use Rattle.fx_zip.proofs.Prelude.{ap, ◌∙◌, around_last, step_tree}
 use Rattle.fx_zip.proofs.Turning.{turned_take}
 use Rattle.fx_zip.proofs.zip.unbind_at.Goals as goal
 

@@ -1,6 +1,4 @@
-use Rattle.std.proofs.Common.{◌<◌, length, refl, sym, ap, ◌∙◌, subst}
-use Rattle.fx_zip.specs.Fresh.{IsFresh, told_by}
-use Rattle.fx_zip.specs.Trees.{ZipTree}
+use Rattle.fx_zip.proofs.Prelude.{◌<◌, length, refl, sym, ap, ◌∙◌, subst, IsFresh, told_by, ZipTree}
 use Rattle.fx_zip.proofs.Dropping.{untold_dropped, told_stays}
 use Rattle.fx_zip.proofs.Lasting.{fresh_lasts, fresh_shorter, some_frame}
 use Rattle.fx_zip.proofs.zip.Zip.edited.Goals as goal

@@ -1,4 +1,4 @@
-use Rattle.std.proofs.Common.{length}
+use Rattle.fx_zip.proofs.Prelude.{length}
 use Rattle.fx_zip.proofs.Dropping.{IsDropping}
 use Rattle.fx_zip.proofs.zip.Zip.edited.Given as goal
 

@@ -1,4 +1,4 @@
-use Rattle.std.proofs.Common.{sym, ◌∙◌}
+use Rattle.fx_zip.proofs.Prelude.{sym, ◌∙◌}
 use Rattle.fx_zip.proofs.Finding.{finding_first, finding_next, finding_smaller, found_all, found_none, found_stop}
 use Rattle.fx_zip.proofs.zip.Zip.find.Goals as goal
 

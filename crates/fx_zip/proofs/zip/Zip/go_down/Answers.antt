@@ -1,9 +1,4 @@
-use Rattle.std.proofs.Common.{Ok, Err, refl}
-use Rattle.fx_spec.specs.Move.{go_down}
-use Rattle.fx_spec.specs.Transaction.{from_place}
-use Rattle.fx_spec.specs.Parts.{part_of}
-use Rattle.fx_view.specs.Own.{own_at}
-use Rattle.fx_zip.specs.Calls.{place_evals}
+use Rattle.fx_zip.proofs.Prelude.{Ok, Err, refl, go_down, from_place, part_of, own_at, place_evals}
 use Rattle.fx_zip.proofs.Places.{moves_unfound, here_scope, enters_here, moved_in, moved_memory, moved_not}
 use Rattle.fx_zip.proofs.Sessions.{enters_of}
 use Rattle.fx_zip.proofs.zip.Zip.go_down.Goals as goal

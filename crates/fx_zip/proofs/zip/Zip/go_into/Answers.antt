@@ -1,10 +1,4 @@
-use Rattle.std.proofs.Common.{Ok, Err, refl}
-use Rattle.fx_spec.specs.Move.{go_into}
-use Rattle.fx_spec.specs.Transaction.{from_place}
-use Rattle.fx_spec.specs.Parts.{part_of}
-use Rattle.fx_view.specs.Own.{own_at}
-use Rattle.fx_zip.specs.Calls.{place_evals}
-use Rattle.std.specs.Option.{option_copied}
+use Rattle.fx_zip.proofs.Prelude.{Ok, Err, refl, go_into, from_place, part_of, own_at, place_evals, option_copied}
 use Rattle.fx_zip.proofs.Places.{moves_unfound, here_scope, kept_here, enters_here, moved_in, moved_memory, moved_not}
 use Rattle.fx_zip.proofs.zip.Zip.go_into.Goals as goal
 

@@ -1,10 +1,7 @@
-use Rattle.std.proofs.Common.{sym, ◌∙◌}
-use Rattle.fx_view.specs.Own.{own_at}
+use Rattle.fx_zip.proofs.Prelude.{sym, ◌∙◌, own_at, go_next, next_at, sideways_evals}
 use Rattle.fx_zip.proofs.Around.{moved_next, moved_greater, first_of_true}
 use Rattle.fx_zip.proofs.Places.{moves_unfound}
 use Rattle.fx_zip.proofs.zip.Zip.go_next.Goals as goal
-use Rattle.fx_spec.specs.Move.{go_next}
-use Rattle.fx_zip.specs.Calls.{next_at, sideways_evals}
 use Rattle.fx_zip.proofs.Around.{next_rule}
 
 pub returns-in_err-find : goal.returns-in_err-find

@@ -1,6 +1,4 @@
-use Rattle.std.proofs.Common.{sym, subst}
-use Rattle.fx_zip.specs.Fresh.{IsFresh}
-use Rattle.fx_zip.specs.Trees.{IsSettled}
+use Rattle.fx_zip.proofs.Prelude.{sym, subst, IsFresh, IsSettled}
 use Rattle.fx_zip.proofs.Standing.{fresh_left, left_kept}
 use Rattle.fx_zip.proofs.zip.Zip.go_out.Goals as goal
 

@@ -1,10 +1,7 @@
-use Rattle.std.proofs.Common.{sym, ◌∙◌}
-use Rattle.fx_view.specs.Own.{own_at}
+use Rattle.fx_zip.proofs.Prelude.{sym, ◌∙◌, own_at, go_prev, prev_at}
 use Rattle.fx_zip.proofs.Around.{moved_first, moved_smaller, second_of_true}
 use Rattle.fx_zip.proofs.Places.{moves_unfound}
 use Rattle.fx_zip.proofs.zip.Zip.go_prev.Goals as goal
-use Rattle.fx_spec.specs.Move.{go_prev}
-use Rattle.fx_zip.specs.Calls.{prev_at}
 use Rattle.fx_zip.proofs.Around.{prev_rule}
 
 pub returns-in_err-find : goal.returns-in_err-find

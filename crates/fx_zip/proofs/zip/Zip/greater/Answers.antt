@@ -1,7 +1,5 @@
-use Rattle.fx_expr.specs.Sets.{least_above}
+use Rattle.fx_zip.proofs.Prelude.{least_above, option_copied, has_above}
 use Rattle.fx_zip.proofs.Beside.{besides, none_besides}
-use Rattle.std.specs.Option.{option_copied}
-use Rattle.fx_text.proofs.Chosen.{has_above}
 use Rattle.fx_zip.proofs.zip.Zip.greater.Goals as goal
 
 pub returns-in-Some : goal.returns-in-Some

@@ -1,8 +1,4 @@
-use Rattle.std.proofs.Common.{◌≡◌, sym, subst}
-use Rattle.fx_spec.specs.Place.{placed}
-use Rattle.fx_spec.specs.Shaped.{IsDescribedPlace}
-use Rattle.fx_spec.specs.Parts.{part_of}
-use Rattle.fx_zip.specs.Trees.{here}
+use Rattle.fx_zip.proofs.Prelude.{◌≡◌, sym, subst, placed, IsDescribedPlace, part_of, here}
 use Rattle.fx_zip.proofs.Standing.{stands_described}
 use Rattle.fx_zip.proofs.zip.Zip.here.Goals as goal
 

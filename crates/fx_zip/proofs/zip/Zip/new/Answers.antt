@@ -1,4 +1,4 @@
-use Rattle.std.proofs.Common.{rules}
+use Rattle.fx_zip.proofs.Prelude.{rules}
 use Rattle.fx_zip.proofs.Standing.{fresh_none}
 use Rattle.fx_zip.proofs.zip.Zip.new.Goals as goal
 

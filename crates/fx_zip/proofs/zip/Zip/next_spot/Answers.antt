@@ -1,14 +1,5 @@
-use Rattle.std.proofs.Common.{◌≡◌, List, length, take, [], subst, ap, ◌∙◌, sym, arith, rules, length-take}
-use Rattle.fx_spec.specs.Describe.{Bindings}
-use Rattle.fx_spec.specs.Parts.{part_of}
-use Rattle.fx_spec.specs.WellShaped.{IsDescription}
-use Rattle.fx_view.specs.Own.{own_at}
-use Rattle.fx_zip.specs.declared.frame.Frame.{Frame}
+use Rattle.fx_zip.proofs.Prelude.{◌≡◌, List, length, take, [], subst, ap, ◌∙◌, sym, arith, rules, length-take, Bindings, part_of, IsDescription, own_at, Frame, part, step_tree, turned, ZipTree, path_of, zip_tree}
 use Rattle.fx_zip.specs.declared.step.Step.{Step}
-use Rattle.fx_zip.specs.Parts.{part}
-use Rattle.fx_zip.specs.Steps.{step_tree, turned}
-use Rattle.fx_zip.specs.Trees.{ZipTree, path_of}
-use Rattle.fx_zip.specs.View.{zip_tree}
 use Rattle.fx_zip.proofs.Nexting.{few_here, scope_next, leads_next}
 use Rattle.fx_zip.proofs.zip.Zip.next_spot.Goals as goal
 

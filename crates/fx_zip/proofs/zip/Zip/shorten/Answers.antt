@@ -1,9 +1,5 @@
-use Rattle.std.proofs.Common.{◌≡◌, List, ◌-◌, length, drop, None, ap, ◌∙◌, arith}
+use Rattle.fx_zip.proofs.Prelude.{◌≡◌, List, ◌-◌, length, drop, None, ap, ◌∙◌, arith, around_last, around_frame, shorter, step_tree, turned, ZipTree, zip_tree}
 use Rattle.fx_zip.specs.declared.step.Step.{Step}
-use Rattle.fx_zip.specs.Fresh.{around_last, around_frame, shorter}
-use Rattle.fx_zip.specs.Steps.{step_tree, turned}
-use Rattle.fx_zip.specs.Trees.{ZipTree}
-use Rattle.fx_zip.specs.View.{zip_tree}
 use Rattle.fx_zip.proofs.Turning.{length-turned}
 use Rattle.fx_zip.proofs.zip.Zip.shorten.Goals as goal
 

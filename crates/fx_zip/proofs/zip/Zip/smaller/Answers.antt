@@ -1,7 +1,5 @@
-use Rattle.fx_expr.specs.Sets.{greatest_below}
+use Rattle.fx_zip.proofs.Prelude.{greatest_below, option_copied, has_below}
 use Rattle.fx_zip.proofs.Beside.{besides, none_besides}
-use Rattle.std.specs.Option.{option_copied}
-use Rattle.fx_text.proofs.Chosen.{has_below}
 use Rattle.fx_zip.proofs.zip.Zip.smaller.Goals as goal
 
 pub returns-in-Some : goal.returns-in-Some

@@ -1,8 +1,5 @@
-use Rattle.std.proofs.Common.{refl, ◌∙◌}
+use Rattle.fx_zip.proofs.Prelude.{refl, ◌∙◌, Entry, prev_at, here}
 use Rattle.fx_zip.specs.declared.step.Step.TheVariants as step
-use Rattle.fx_zip.specs.declared.frame.Entry.{Entry}
-use Rattle.fx_zip.specs.Calls.{prev_at}
-use Rattle.fx_zip.specs.Trees.{here}
 use Rattle.fx_zip.proofs.Beside.{replaced, replace_memory, first_besides}
 use Rattle.fx_zip.proofs.zip.Zip.to_first.Goals as goal
 

@@ -1,5 +1,4 @@
-use Rattle.fx_expr.specs.Sets.{least_above}
-use Rattle.fx_zip.specs.Calls.{beside}
+use Rattle.fx_zip.proofs.Prelude.{least_above, beside}
 use Rattle.fx_zip.proofs.Beside.{replaced, replace_memory, none_replaced}
 use Rattle.fx_zip.proofs.zip.Zip.to_greater.Goals as goal
 

@@ -1,5 +1,4 @@
-use Rattle.fx_expr.specs.Sets.{greatest_below}
-use Rattle.fx_zip.specs.Calls.{beside}
+use Rattle.fx_zip.proofs.Prelude.{greatest_below, beside}
 use Rattle.fx_zip.proofs.Beside.{replaced, replace_memory, none_replaced}
 use Rattle.fx_zip.proofs.zip.Zip.to_smaller.Goals as goal
 
