@@ -2,6 +2,7 @@
 use fx_expr::Shape;
 
 /// A question at a place.
+#[derive(Clone, Copy)]
 pub enum Question<'a> {
     /// What the form there gives. A file gives its bytes, or whether it is executable if a truth value is asked for. A
     /// directory gives its names, a link and a focus a text, and a comprehension its set. An option gives whether its
