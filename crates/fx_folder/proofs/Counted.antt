@@ -110,7 +110,7 @@ more_bytes h hs = sum_by-cons (λ (x : Held). length x.1.bytes) h hs
 more_texts : (l : TableLink) (ls : List TableLink) → texts_of (l ∷ ls) ≡ length l.text + texts_of ls
 more_texts l ls = sum_by-cons (λ (x : TableLink). length x.text) l ls
 
-more_sizes : (e : Mapped) (es : List Mapped) → sizes_of (e ∷ es) ≡ counted_bytes e.1 + sizes_of es
+pub more_sizes : (e : Mapped) (es : List Mapped) → sizes_of (e ∷ es) ≡ counted_bytes e.1 + sizes_of es
 more_sizes e es = sum_by-cons (λ (x : Mapped). counted_bytes x.1) e es
 
 pub sum_held : (es : List Mapped) → all_bytes (held_of es) + texts_of (links_in es) ≤ sizes_of es

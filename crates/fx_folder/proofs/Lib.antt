@@ -2,6 +2,7 @@ pub mod Below
 pub mod Branches
 pub mod Counted
 mod DeepExamples
+pub mod Entries
 pub mod Filled
 pub mod FolderLoads
 pub mod Answering

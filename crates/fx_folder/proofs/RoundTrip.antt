@@ -6,9 +6,9 @@ use Rattle.fx_store.specs.Orders.{name_total, name_same}
 use Rattle.fx_store.specs.Whole.{IsWhole}
 use Rattle.fx_folder.proofs.Walked.{below_sorted, below_root, find_walked_below}
 use Rattle.fx_folder.proofs.Loaded.{IsAccepted, node_of, find_unlisted, unlisted_sorted}
-use Rattle.fx_folder.proofs.Counted.{none_again, rest_sorted, has_root, held_of, find_held, no_root_held, held_sorted, lines_in, links_in, texts_of, more_bytes, counted, sum_held}
+use Rattle.fx_folder.proofs.Counted.{none_again, rest_sorted, has_root, held_of, lines_in, links_in, texts_of, more_bytes, counted, sum_held}
 use Rattle.fx_folder.proofs.Items.{reserved}
-use Rattle.fx_folder.proofs.Ordered.{none_behind}
+use Rattle.fx_folder.proofs.Entries.{same_held}
 use Rattle.fx_folder.proofs.Branches.{find_below}
 
 abbrev Paths : Type 0
@@ -218,11 +218,7 @@ module _ (tree : Tree) (P : Paths) (nodes : Nodes) (whole : IsWhole (get nodes))
 
   -- the entries of the folder are those of the filestore
   held_are : hs ≡ held_of (entries nodes)
-  held_are = same_entries parts_cmp parts_total parts_same hs (held_of (entries nodes)) (below_sorted tree P) (held_sorted (entries nodes) (entries_sorted nodes)) each
-    where
-      each : (q : Paths) → find parts_cmp q hs ≡ find parts_cmp q (held_of (entries nodes))
-      each [] = none_behind [] hs (below_root tree P) ∙ sym (no_root_held (entries nodes))
-      each (n ∷ r) = below_is n r ∙ (ap host_entry (get-entries nodes (n ∷ r)) ∙ sym (find_held (entries nodes) (entries_sorted nodes) n r))
+  held_are = same_held tree P nodes below_is
 
   unlisted_is : (q : Paths) → found (unlisted hs) q ≡ option_map erased (unlinked (get nodes) q)
   unfolding erased

@@ -1,26 +1,24 @@
 -- What a folder is loaded as is within the limits.
 use Rattle.std.proofs.Common.{◌≡◌, ℕ, ◌+◌, ◌-◌, ◌≤◌, true, false, T, List, [], ◌∷◌, length, Ok, Some, sym, ◌∙◌, ap, subst, arith}
 use Rattle.std.specs.Ordering.{is_lt}
-use Rattle.std.specs.FinMap.{get, entries, find, is_sorted, get-entries, entries_sorted, len-entries}
-use Rattle.std.specs.FinMap.Entries.{below_all, same_entries}
+use Rattle.std.specs.FinMap.{get, entries, is_sorted, get-entries, entries_sorted, len-entries}
+use Rattle.std.specs.FinMap.Entries.{below_all}
 use Rattle.std.proofs.lemmas.List.Sums.{sum_by-cons}
-use Rattle.fx_outside.specs.Path.{parts_cmp}
 use Rattle.fx_outside.specs.Tree as host
 use Rattle.fx_outside.specs.Tree.{Tree, file, folder}
 use Rattle.fx_outside.proofs.Sorted.{first, second}
-use Rattle.fx_outside.proofs.Trees.{parts_total, parts_same}
 use Rattle.fx_store.specs.declared.node.Node.{Node}
 use Rattle.fx_store.specs.declared.node.Node.TheVariants.{File, Dir, Link}
 use Rattle.fx_store.specs.Names.{path_cmp}
 use Rattle.fx_store.specs.Whole.{Nodes, IsWhole}
 use Rattle.fx_table.specs.Listed.{Mapped}
 use Rattle.fx_table.specs.Table.{TableLink, table_text, lines_of, links_among}
-use Rattle.fx_folder.specs.Places.{host_entry}
 use Rattle.fx_folder.specs.Loads.{most_nodes, most_bytes}
-use Rattle.fx_folder.specs.LoadLaws.{counted_bytes, sizes_of, IsWithinLimits}
+use Rattle.fx_folder.specs.LoadLaws.{sizes_of, IsWithinLimits}
 use Rattle.fx_folder.specs.Deep.{Held, all_below, walked, most_in_table, all_bytes, deep_loads}
-use Rattle.fx_folder.proofs.Counted.{none_behind, has_root, held_of, find_held, no_root_held, held_sorted, links_in, texts_of, more_bytes}
-use Rattle.fx_folder.proofs.Walked.{below_sorted, below_root, find_walked_below}
+use Rattle.fx_folder.proofs.Counted.{has_root, held_of, links_in, texts_of, more_bytes, more_sizes}
+use Rattle.fx_folder.proofs.Entries.{same_held}
+use Rattle.fx_folder.proofs.Walked.{find_walked_below}
 use Rattle.fx_folder.proofs.Standing.{room, has_table, lines_are, entry_walked}
 
 abbrev Paths : Type 0
@@ -41,9 +39,6 @@ all_counted ((n ∷ r, File bytes true) ∷ es) up = let rest = all_counted es (
 all_counted ((n ∷ r, File bytes false) ∷ es) up = let rest = all_counted es (below_rest (n ∷ r, File bytes false) es up) in omega arith
 all_counted ((n ∷ r, Dir names) ∷ es) up = let rest = all_counted es (below_rest (n ∷ r, Dir names) es up) in omega arith
 all_counted ((n ∷ r, Link text) ∷ es) up = let rest = all_counted es (below_rest (n ∷ r, Link text) es up) in omega arith
-
-more_sizes : (e : Mapped) (es : List Mapped) → sizes_of (e ∷ es) ≡ counted_bytes e.1 + sizes_of es
-more_sizes e es = sum_by-cons (λ (x : Mapped). counted_bytes x.1) e es
 
 -- and all bytes are those of entries and of links
 all_summed : (es : List Mapped) → T (below_all path_cmp [] es) → sizes_of es ≤ all_bytes (held_of es) + texts_of (links_in es)
@@ -90,18 +85,16 @@ module _ (tree : Tree) (whole : host.IsWhole tree) (P : Paths) (nodes : Nodes) (
   abbrev hs : List Held
   hs = walked (all_below tree P)
 
-  held_are : hs ≡ held_of (entries nodes)
-  held_are = same_entries parts_cmp parts_total parts_same hs (held_of (entries nodes)) (below_sorted tree P) (held_sorted (entries nodes) (entries_sorted nodes)) each
-    where
-      each : (q : Paths) → find parts_cmp q hs ≡ find parts_cmp q (held_of (entries nodes))
-      each [] = none_behind [] hs (below_root tree P) ∙ sym (no_root_held (entries nodes))
-      each (n ∷ r) = find_walked_below tree P n r ∙ sym (entry_walked tree whole P nodes there loads n r) ∙ ap host_entry (get-entries nodes (n ∷ r)) ∙ sym (find_held (entries nodes) (entries_sorted nodes) n r)
+  held_same : (length hs ≡ length (held_of (entries nodes))) × (all_bytes hs ≡ all_bytes (held_of (entries nodes)))
+  held_same =
+      let are = same_held tree P nodes (λ n r. find_walked_below tree P n r ∙ sym (entry_walked tree whole P nodes there loads n r)) in
+      (ap length are, ap all_bytes are)
 
   few_links : length (held_of (entries nodes)) + 1 + length (links_among (lines_of nodes)) ≤ most_nodes
   few_links =
       let table = has_table tree whole P nodes there loads in
       let few = subst (λ l. length hs + 1 + length (links_among l) ≤ most_nodes) (sym (lines_are tree whole P nodes there loads)) table.few in
-      let n : length hs ≡ length (held_of (entries nodes)) = ap length held_are in
+      let n : length hs ≡ length (held_of (entries nodes)) = held_same.0 in
       omega arith
 
   few_bytes : all_bytes (held_of (entries nodes)) + texts_of (links_among (lines_of nodes)) ≤ most_bytes
@@ -109,7 +102,7 @@ module _ (tree : Tree) (whole : host.IsWhole tree) (P : Paths) (nodes : Nodes) (
       let table = has_table tree whole P nodes there loads in
       let fit = subst (λ l. texts_of (links_among l) ≤ most_bytes - all_bytes hs) (sym (lines_are tree whole P nodes there loads)) table.fit in
       let all = (room tree whole P nodes there loads).fit in
-      let n : all_bytes hs ≡ all_bytes (held_of (entries nodes)) = ap all_bytes held_are in
+      let n : all_bytes hs ≡ all_bytes (held_of (entries nodes)) = held_same.1 in
       omega arith
 
   pub within_limits : IsWithinLimits nodes
