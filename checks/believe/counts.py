@@ -18,9 +18,9 @@ _SHARED = (
 )
 _RUN = (
     "fx_command.Table.CommandRow",
-    "fx_run_command.Rows.run_command",
-    "fx_run_command.Rows.LetsRun",
-    "fx_run_command.Rows.IsProperRun",
+    "fx_run_commands.Runs.Rows.run_command",
+    "fx_run_commands.Runs.Rows.LetsRun",
+    "fx_run_commands.Runs.Rows.IsProperRun",
 )
 
 
@@ -48,19 +48,19 @@ COMMANDS = (
     Command(
         "journal",
         (
-            "fx_journal_command.Rows.JournalRow",
-            "fx_journal_command.Rows.KeepsJournal",
-            "fx_run_command.Rows.LetsRun",
-            "fx_journal_command.Rows.IsProperJournal",
+            "fx_run_commands.Journals.Rows.JournalRow",
+            "fx_run_commands.Journals.Rows.KeepsJournal",
+            "fx_run_commands.Runs.Rows.LetsRun",
+            "fx_run_commands.Journals.Rows.IsProperJournal",
             "fx_durable::disk::Disk",
         ),
     ),
     Command(
         "recover",
         (
-            "fx_recover_command.Rows.RecoverRow",
-            "fx_recover_command.Rows.LetsRecover",
-            "fx_recover_command.Rows.IsProperRecover",
+            "fx_commands.Recoveries.Rows.RecoverRow",
+            "fx_commands.Recoveries.Rows.LetsRecover",
+            "fx_commands.Recoveries.Rows.IsProperRecover",
             "fx_durable::disk::Disk",
         ),
     ),
@@ -68,25 +68,25 @@ COMMANDS = (
         "audit",
         (
             "fx_command.Query.QueryRow",
-            "fx_audit_command.Rows.audit_query",
-            "fx_audit_command.Rows.LetsAudit",
-            "fx_audit_command.Rows.IsProperAudit",
+            "fx_commands.Audits.Rows.audit_query",
+            "fx_commands.Audits.Rows.LetsAudit",
+            "fx_commands.Audits.Rows.IsProperAudit",
         ),
     ),
     Command(
         "show",
         (
             "fx_command.Query.QueryRow",
-            "fx_show.Rows.show_query",
-            "fx_show.Rows.LetsShow",
-            "fx_show.Shows.IsProperShow",
+            "fx_commands.Shows.Rows.show_query",
+            "fx_commands.Shows.Rows.LetsShow",
+            "fx_commands.Shows.Showing.IsProperShow",
         ),
     ),
     Command(
         "gen",
         (
             "fx_command.Table.CommandRow",
-            "fx_large.GenRows.gen_making",
+            "fx_large_commands.GenRows.gen_making",
             "fx_command.Out.LetsOut",
             "fx_command.Out.IsProperOut",
         ),
@@ -95,7 +95,7 @@ COMMANDS = (
         "large",
         (
             "fx_command.Table.CommandRow",
-            "fx_large.LargeRows.large_making",
+            "fx_large_commands.LargeRows.large_making",
             "fx_command.Out.LetsOut",
             "fx_command.Out.IsProperOut",
         ),

@@ -9,10 +9,10 @@ from __future__ import annotations
 
 from typing import NamedTuple
 
-WATCHED = "fx_watched.Outcome.IsWatchedAs"
-TRACED = "fx_run_command.Outcome.IsTracedAs"
+WATCHED = "fx_watch.Outcome.IsWatchedAs"
+TRACED = "fx_run_commands.Runs.Outcome.IsTracedAs"
 DONE = "fx_command.Table.IsDone"
-HEADLINE = "fx_run_command.Rows.run_making"
+HEADLINE = "fx_run_commands.Runs.Rows.run_making"
 TOP = ("fx_top", "top")
 
 
@@ -57,9 +57,9 @@ SECTIONS = (
         (
             DONE,
             HEADLINE,
-            "fx_run_command.Outcome.IsOutcome",
+            "fx_run_commands.Runs.Outcome.IsOutcome",
             "fx_inputs.Inputs.HasBase",
-            "fx_run_command.Outcome.IsPrintedAs",
+            "fx_run_commands.Runs.Outcome.IsPrintedAs",
         ),
     ),
     Section(
@@ -208,7 +208,7 @@ SECTIONS = (
         "Texts: shapes and meaning",
         "These definitions say which trees are well shaped, and which description a text with"
         " definitions means.",
-        ("fx_source.Described.Describes", "fx_source.Scripted.Scripts"),
+        ("fx_command.Described.Describes", "fx_command.Scripted.Scripts"),
         (
             "fx_spec.Written.meant",
             "fx_spec.Written.names_in",
@@ -271,7 +271,7 @@ SECTIONS = (
         "What is left of `run`, status 0",
         "With these the definitions of status 0 of `run` are complete.",
         (DONE, HEADLINE),
-        ("fx_run_command.Outcome.IsBehindSomeTrace",),
+        ("fx_run_commands.Runs.Outcome.IsBehindSomeTrace",),
     ),
     Section(
         "`watch`",
@@ -290,7 +290,7 @@ SECTIONS = (
         "Statuses 3 and 4: first faults",
         "These definitions say which texts and folders are refused, and for what.",
         ("fx_inputs.Inputs.IsFirstRefused", "fx_folder.Loads.IsRefused"),
-        ("fx_source.Described.IsRefusedFor",),
+        ("fx_command.Described.IsRefusedFor",),
     ),
     Section(
         "The other statuses of `run`",
@@ -298,20 +298,20 @@ SECTIONS = (
         " it.",
         (
             "fx_command.Table.CommandRow",
-            "fx_run_command.Rows.run_command",
-            "fx_run_command.Rows.LetsRun",
-            "fx_run_command.Rows.IsProperRun",
+            "fx_run_commands.Runs.Rows.run_command",
+            "fx_run_commands.Runs.Rows.LetsRun",
+            "fx_run_commands.Runs.Rows.IsProperRun",
         ),
-        ("fx_command.Table.CommandRow", "fx_run_command.Rows.run_command"),
+        ("fx_command.Table.CommandRow", "fx_run_commands.Runs.Rows.run_command"),
     ),
     Section(
         "`show`",
         "It is printed whether the folder has a value by the description, and which.",
         (
             "fx_command.Query.QueryRow",
-            "fx_show.Rows.show_query",
-            "fx_show.Rows.LetsShow",
-            "fx_show.Shows.IsProperShow",
+            "fx_commands.Shows.Rows.show_query",
+            "fx_commands.Shows.Rows.LetsShow",
+            "fx_commands.Shows.Showing.IsProperShow",
         ),
         ("fx_command.Query.QueryRow",),
     ),
@@ -330,9 +330,9 @@ SECTIONS = (
         "The verdict says whether a text is the report of a complete order, with retries that this"
         " order can have had; or it is the first fault.",
         (
-            "fx_audit_command.Rows.audit_query",
-            "fx_audit_command.Rows.LetsAudit",
-            "fx_audit_command.Rows.IsProperAudit",
+            "fx_commands.Audits.Rows.audit_query",
+            "fx_commands.Audits.Rows.LetsAudit",
+            "fx_commands.Audits.Rows.IsProperAudit",
         ),
         ("fx_audit.Audits.IsTrueReport",),
     ),
@@ -346,9 +346,9 @@ SECTIONS = (
         "`journal`",
         "These definitions say what the file JOURNAL spells, whenever the machine stops.",
         (
-            "fx_journal_command.Rows.JournalRow",
-            "fx_journal_command.Rows.KeepsJournal",
-            "fx_journal_command.Rows.IsProperJournal",
+            "fx_run_commands.Journals.Rows.JournalRow",
+            "fx_run_commands.Journals.Rows.KeepsJournal",
+            "fx_run_commands.Journals.Rows.IsProperJournal",
         ),
         ("fx_durable.Journal.reading", "fx_journaling.Kept.LeavesEither"),
     ),
@@ -356,18 +356,18 @@ SECTIONS = (
         "`recover`",
         "OUT holds the folder after the commits that a journal keeps.",
         (
-            "fx_recover_command.Rows.RecoverRow",
-            "fx_recover_command.Rows.LetsRecover",
-            "fx_recover_command.Rows.IsProperRecover",
+            "fx_commands.Recoveries.Rows.RecoverRow",
+            "fx_commands.Recoveries.Rows.LetsRecover",
+            "fx_commands.Recoveries.Rows.IsProperRecover",
         ),
     ),
     Section(
         "`gen` and `large`",
         "`gen` writes a case that a number gives. `large` runs that case and sums up what came out.",
         (
-            "fx_large.GenRows.gen_making",
+            "fx_large_commands.GenRows.gen_making",
             "fx_command.Table.making_only",
-            "fx_large.LargeRows.large_making",
+            "fx_large_commands.LargeRows.large_making",
         ),
     ),
     Section(
@@ -397,23 +397,23 @@ LAWS_AT = {
     "fx_spec::shapes::a_whole_value_has_its_shape": "Moves and fetches",
     "fx_spec::laws::worked_transactions": "Transactions, run whole",
     "fx_folder::laws::folders_are_loaded": "The folder of a filestore",
-    "fx_folder_laws::lib::loaded_folders_stay": "The folder of a filestore",
-    "fx_folder_laws::lib::saved_folders_are_same": "The folder of a filestore",
-    "fx_folder_laws::lib::folders_are_what_they_load_as": "The folder of a filestore",
-    "fx_folder_laws::lib::folders_are_of_one": "The folder of a filestore",
+    "fx_laws::folders::loaded_folders_stay": "The folder of a filestore",
+    "fx_laws::folders::saved_folders_are_same": "The folder of a filestore",
+    "fx_laws::folders::folders_are_what_they_load_as": "The folder of a filestore",
+    "fx_laws::folders::folders_are_of_one": "The folder of a filestore",
     "fx_machine::laws::the_conflicts_of_a_run_are_its_retries": "The machine of looks and settles",
     "fx_laws::moves::moves_lead_to_places": "Moves and fetches",
     "fx_laws::pairs::what_is_not_consulted_stays": "Transactions, run whole",
     "fx_laws::pairs::transactions_apart_commute": "Transactions, run whole",
     "fx_laws::orders::neighbours_apart_may_swap": "States, orders, retries",
     "fx_spec::laws::a_transaction_depends_on_its_way": "Transactions, run whole",
-    "fx_progress::lib::a_transaction_looks_at_paths_alone": "Transactions, run whole",
+    "fx_machine::progress::a_transaction_looks_at_paths_alone": "Transactions, run whole",
     "fx_laws_above::reports::a_run_begins_in_one_way": "The claim",
     "fx_laws::filestores::directories_list_what_stands": "Filestores",
     "fx_laws::moves::neighbours_come_back": "Moves and fetches",
     "fx_laws::moves::steps_reach_each_element": "Moves and fetches",
     "fx_laws::values::what_is_evaluated_or_fetched_can_be_stored": "Edits",
-    "fx_ground_laws::words::a_job_tells_its_words": "The words",
+    "fx_laws::words::a_job_tells_its_words": "The words",
     "fx_laws_above::twice::what_is_said_twice_is_the_same": "The folder of a filestore",
     "fx_laws_above::twice::numerals_are_the_limits": "The folder of a filestore",
 }

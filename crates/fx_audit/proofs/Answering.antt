@@ -16,7 +16,7 @@ use Rattle.fx_report.specs.declared.printed.PrintedEntry.{PrintedEntry}
 use Rattle.fx_report.specs.Entries.{commands_or_none, entry, entries_from, entries_of}
 use Rattle.fx_board.specs.Board.{IsEntry, settled, entry_turn}
 use Rattle.fx_board.specs.Log.{Log}
-use Rattle.fx_replay_log.specs.Orders.{logged}
+use Rattle.fx_audit.specs.Orders.{logged}
 use Rattle.fx_audit.specs.Verdicts.{turn_told, order_told, IsAnswered, AllAnswered, IsFirstUnanswered}
 use Rattle.fx_audit.proofs.Fronts.{told_length, told_more, told_split}
 

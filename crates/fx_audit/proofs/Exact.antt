@@ -13,7 +13,7 @@ use Rattle.fx_audit.specs.declared.verdict.Verdict.TheVariants as verdict
 use Rattle.fx_audit.specs.Audits.{IsReadAs, IsTrueReport, IsVerdictOn}
 use Rattle.fx_audit.specs.Verdicts.{order_told, AllAnswered, IsVerdict}
 use Rattle.fx_audit.proofs.Answering.{answers_are, entries_answered, order_of_entries}
-use Rattle.fx_replay_log.proofs.Legal.{legal_take}
+use Rattle.fx_audit.proofs.Legal.{legal_take}
 use Rattle.fx_audit.proofs.Trying.{ok_take}
 
 -- ---- yes

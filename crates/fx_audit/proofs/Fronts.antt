@@ -5,8 +5,8 @@ use Rattle.std.proofs.lemmas.Option.{slice_get_within}
 use Rattle.fx_base.proofs.Lists.{take_next}
 use Rattle.fx_spec.specs.Order.{BaseTree, IsLegal}
 use Rattle.fx_report.specs.declared.printed.PrintedEntry.{PrintedEntry}
-use Rattle.fx_replay_log.specs.Legal.{IsNextIn, IsFirstIllegal}
-use Rattle.fx_replay_log.proofs.Legal.{legal_front, legal_turn}
+use Rattle.fx_audit.specs.Legal.{IsNextIn, IsFirstIllegal}
+use Rattle.fx_audit.proofs.Legal.{legal_front, legal_turn}
 use Rattle.fx_audit.specs.Verdicts.{turn_told, order_told}
 use Rattle.fx_audit.proofs.Lists.{length_front, split}
 

@@ -3,6 +3,8 @@ pub mod Ends
 pub mod Exact
 pub mod Fronts
 pub mod Judging
+pub mod Legal
 pub mod Lists
+pub mod Now
 pub mod Placing
 pub mod Trying

@@ -11,7 +11,7 @@ use Rattle.fx_spec.proofs.Orders.{legal-next}
 use Rattle.fx_machine.specs.Machine.{next_number}
 use Rattle.fx_machine.proofs.Complete.{next_after}
 use Rattle.fx_machine.proofs.Reached.{shell_within}
-use Rattle.fx_replay_log.specs.Legal.{IsNextIn}
+use Rattle.fx_audit.specs.Legal.{IsNextIn}
 use Rattle.fx_audit.specs.Places.{AddsNext, ArePlaces, AreShellPlaces, places_of}
 use Rattle.fx_audit.specs.Verdicts.{IsFirstMissing}
 use Rattle.fx_audit.proofs.Lists.{last_is, place_of}

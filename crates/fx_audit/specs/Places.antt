@@ -3,7 +3,7 @@ use Rattle.std.specs.Prelude.{◌≡◌, ℕ, Bool, true, false, List, [], ◌�
 use Rattle.fx_spec.specs.Plans.{Turn}
 use Rattle.fx_spec.specs.Order.{BaseTree, IsLegal}
 use Rattle.fx_machine.specs.Machine.{next_number}
-use Rattle.fx_replay_log.specs.Legal.{IsNextIn}
+use Rattle.fx_audit.specs.Legal.{IsNextIn}
 
 abbrev pub places_of : List (List ℕ) → ℕ → List ℕ
 places_of table shell = slice_index_or table shell []

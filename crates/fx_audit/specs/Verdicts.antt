@@ -4,7 +4,7 @@ use Rattle.fx_spec.specs.Plans.{Turn, count_of}
 use Rattle.fx_spec.specs.Order.{BaseTree, IsLegal, IsComplete, RetriesOk}
 use Rattle.fx_machine.specs.declared.retry.Retry.{Retry}
 use Rattle.fx_machine.specs.Tried.{retry_tree}
-use Rattle.fx_replay_log.specs.Legal.{IsFirstIllegal}
+use Rattle.fx_audit.specs.Legal.{IsFirstIllegal}
 use Rattle.fx_report.specs.declared.printed.PrintedEntry.{PrintedEntry}
 use Rattle.fx_report.specs.Entries.{entry}
 use Rattle.fx_audit.specs.declared.verdict.Verdict.{Verdict}

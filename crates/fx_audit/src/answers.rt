@@ -6,13 +6,13 @@ ghost use Rattle.fx_spec.specs.Plans.{count_of};
 ghost use Rattle.fx_machine.specs.Machine.{next_number};
 ghost use Rattle.fx_report.specs.Entries.{entry};
 ghost use Rattle.fx_board.specs.Board.{settled, started};
-ghost use Rattle.fx_replay_log.specs.Orders.{logged};
+ghost use Rattle.fx_audit.specs.Orders.{logged};
 ghost use Rattle.fx_audit.specs.Verdicts.{turn_told, order_told, AllAnswered, IsFirstUnanswered};
 
+use crate::replaying::enter;
 use crate::same::is_same_end;
 use fx_base::NoMemory;
 use fx_board::Board;
-use fx_replay_log::enter;
 use fx_report::{PrintedEntries, PrintedEntry};
 use fx_spec::Base;
 use std::alloc::Global;

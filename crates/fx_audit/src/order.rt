@@ -3,7 +3,7 @@ ghost use Rattle.std.specs.Prelude.{◌≡◌, [], List, IfOk, MatchOption, leng
 ghost use Rattle.fx_spec.specs.Bases.{base_tree};
 ghost use Rattle.fx_spec.specs.Order.{IsComplete};
 ghost use Rattle.fx_spec.specs.Plans.{Turn};
-ghost use Rattle.fx_replay_log.specs.Legal.{IsFirstIllegal};
+ghost use Rattle.fx_audit.specs.Legal.{IsFirstIllegal};
 ghost use Rattle.fx_audit.specs.Places.{AddsNext, ArePlaces};
 ghost use Rattle.fx_audit.specs.Verdicts.{turn_told, order_told, IsFirstMissing};
 

@@ -1,7 +1,11 @@
+pub mod Ahead
+pub mod DescriptionCauses
+pub mod Files
 pub mod Outs
 pub mod Pieces
 pub mod Queries
 pub mod Readings
+pub mod ScriptCauses
 pub mod Tables
 pub mod Told
 pub mod Writing

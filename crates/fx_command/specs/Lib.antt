@@ -1,9 +1,15 @@
-pub mod Out
+pub mod Ahead
+pub mod Causes
 pub mod Codes
+pub mod Described
+pub mod Faults
+pub mod Files
 pub mod Left
+pub mod Out
 pub mod Query
 pub mod Reading
 pub mod Saved
+pub mod Scripted
 pub mod StatusOf
 pub mod Table
 pub mod Texts

@@ -1,4 +1,8 @@
+pub mod Cutting
+pub mod Described
+pub mod Lined
 pub mod Names
-pub mod Ranges
-pub mod Wholes
 pub mod Placing
+pub mod Ranges
+pub mod Scripted
+pub mod Wholes

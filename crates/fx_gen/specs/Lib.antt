@@ -1,3 +1,4 @@
 pub mod Draws
 pub mod Notes
 pub mod Scripts
+pub mod Trees

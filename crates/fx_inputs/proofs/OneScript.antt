@@ -9,10 +9,10 @@ use Rattle.fx_base.specs.Limits.{source_limit}
 use Rattle.fx_command.specs.Reading.{ReadEnds}
 use Rattle.fx_command.specs.Texts.{IsReadAt}
 use Rattle.fx_command.proofs.Told.{if_some_map}
-use Rattle.fx_source.specs.declared.fault.SourceFault.{SourceFault}
-use Rattle.fx_source.specs.declared.fault.SourceFault.TheVariants as source
-use Rattle.fx_source.specs.Faults.{status_at}
-use Rattle.fx_source.specs.Scripted.{Scripts, IsNoScriptFor, IsUnscripted}
+use Rattle.fx_command.specs.declared.fault.SourceFault.{SourceFault}
+use Rattle.fx_command.specs.declared.fault.SourceFault.TheVariants as source
+use Rattle.fx_command.specs.Faults.{status_at}
+use Rattle.fx_command.specs.Scripted.{Scripts, IsNoScriptFor, IsUnscripted}
 use Rattle.fx_inputs.specs.Causes.{script_reading}
 use Rattle.fx_inputs.specs.Inputs.{HasNoScript, HasMoreScripts}
 

@@ -11,10 +11,10 @@ use Rattle.fx_command.proofs.Told.{if_some_map}
 use Rattle.fx_outside.specs.declared.kind.HostFault.{HostFault}
 use Rattle.fx_outside.specs.declared.kind.HostFault.TheVariants as fails
 use Rattle.fx_outside.specs.Host.{HostView}
-use Rattle.fx_source.specs.declared.fault.SourceFault.{SourceFault}
-use Rattle.fx_source.specs.declared.fault.SourceFault.TheVariants as source
-use Rattle.fx_source.specs.Faults.{status_at}
-use Rattle.fx_source.specs.Scripted.{IsUnscripted}
+use Rattle.fx_command.specs.declared.fault.SourceFault.{SourceFault}
+use Rattle.fx_command.specs.declared.fault.SourceFault.TheVariants as source
+use Rattle.fx_command.specs.Faults.{status_at}
+use Rattle.fx_command.specs.Scripted.{IsUnscripted}
 use Rattle.fx_inputs.proofs.OneScript.{script_refused}
 use Rattle.fx_inputs.proofs.Plans.{Plan, IsReading, refuses, fails as not_there}
 use Rattle.fx_inputs.specs.Causes.{scripts_reading}

@@ -14,8 +14,8 @@ use Rattle.fx_command.specs.declared.status.TextFault.{TextFault}
 use Rattle.fx_command.specs.Reading.{ReadEnds}
 use Rattle.fx_command.proofs.Readings.{IsNarrower, ends_within}
 use Rattle.fx_command.proofs.Told.{if_some_map, if_some_both, some_and, some_unit, cause_back, some_back}
-use Rattle.fx_source.specs.Files.{description_reading}
-use Rattle.fx_source.specs.declared.reading.TheConstants.{SPEC_WORD}
+use Rattle.fx_command.specs.Files.{description_reading}
+use Rattle.fx_command.specs.declared.reading.TheConstants.{SPEC_WORD}
 use Rattle.fx_inputs.specs.declared.views.TheConstants.{VIEWS_WORD}
 use Rattle.fx_inputs.specs.Causes.{script_reading}
 use Rattle.fx_inputs.specs.Inputs.{HasBase, HasScript, HasSpec, HasNoSpec, HasSomeSpec, HasNoScript, CannotRead, HasMoreScripts, IsFirstRefused}

@@ -8,8 +8,8 @@ use Rattle.fx_spec.specs.SpecTree.{SpecTree}
 use Rattle.fx_spec.specs.CommandTree.{CommandTree}
 use Rattle.fx_spec.specs.Order.{BaseTree}
 use Rattle.fx_command.specs.declared.status.TextFault.{TextFault}
-use Rattle.fx_source.specs.Files.{IsDescriptionAt, IsNoDescriptionAt}
-use Rattle.fx_source.specs.Scripted.{Scripts, IsNoScriptFor}
+use Rattle.fx_command.specs.Files.{IsDescriptionAt, IsNoDescriptionAt}
+use Rattle.fx_command.specs.Scripted.{Scripts, IsNoScriptFor}
 use Rattle.fx_words.specs.Job.{Inputs, script_place}
 
 -- the file at SPEC describes this; or its text is refused, first for this cause

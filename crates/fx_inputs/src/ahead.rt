@@ -1,7 +1,7 @@
 //! Texts of scripts, read ahead on threads.
 ghost use Rattle.std.specs.Prelude.{◌≡◌, IfOk, IfErr};
 
-use fx_source::Source;
+use fx_command::Source;
 use fx_threads::STACK_BYTES;
 use std::alloc::Global;
 use std::mem;

@@ -8,10 +8,9 @@ ghost use Rattle.fx_inputs.specs.Inputs.{HasSpec, HasScripts, AreOnlyScripts, Ha
 ghost use Rattle.fx_inputs.specs.Reads.{ReadRow, InputsAsk};
 
 use crate::scripts::read_plan;
-use fx_command::Status;
+use fx_command::{Status, read_description};
 use fx_folder::load;
 use fx_outside::Host;
-use fx_source::read_description;
 use fx_spec::{Base, Checked, Plan};
 use fx_store::Filestore;
 use fx_words::Inputs;

@@ -6,9 +6,8 @@ ghost use Rattle.fx_inputs.specs.Reads.{AsksAtAll};
 ghost use Rattle.fx_inputs.specs.ReadTexts.{AreScriptTexts, StopsFor};
 
 use fx_base::SOURCE_LIMIT;
-use fx_command::read_text;
+use fx_command::{Source, read_text};
 use fx_outside::{Host, HostFault};
-use fx_source::Source;
 use fx_words::Inputs;
 use std::alloc::Global;
 

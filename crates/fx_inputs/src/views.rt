@@ -11,9 +11,8 @@ ghost use Rattle.fx_inputs.specs.Views.{HasBases, HasViewsAlone, IsBeside, Views
 use crate::reading::read_rest;
 use crate::scripts::read_script_at;
 use fx_base::NoMemory;
-use fx_command::Status;
+use fx_command::{Status, read_description};
 use fx_outside::Host;
-use fx_source::read_description;
 use fx_spec::{Base, Plan, Script};
 use fx_words::ViewsJob;
 use std::alloc::Global;

@@ -13,7 +13,7 @@ use Rattle.fx_machine.specs.declared.event.Event.{Event}
 use Rattle.fx_machine.specs.Machine.{Machine, Run, shell_of, resting}
 use Rattle.fx_machine.specs.Tried.{retries_of}
 use Rattle.fx_machine.specs.Turns.{BeginsTurns, leaves_out, goes, next_round, stops}
-use Rattle.fx_progress.proofs.Turning.{runs_on}
+use Rattle.fx_machine.proofs.Turning.{runs_on}
 use Rattle.fx_report.specs.Entries.{report}
 use Rattle.fx_report.specs.Events.{event_line, lines}
 use Rattle.fx_journaling.specs.Laws.{WrittenIsFront}

@@ -4,7 +4,7 @@ use Rattle.std.proofs.lemmas.Option.{same_Some, none-some}
 use Rattle.fx_spec.specs.Plans.{Turn}
 use Rattle.fx_spec.specs.Order.{IsLegal}
 use Rattle.fx_durable.specs.Journal.{Spells, Breaks, value_of}
-use Rattle.fx_replay_log.proofs.Legal.{legal_take}
+use Rattle.fx_audit.proofs.Legal.{legal_take}
 use Rattle.fx_journaling.specs.Laws.{LegalImagesAreGood}
 
 not_broken : (order : List Turn) (image : List ℕ) (place : ℕ) → Spells order image → Breaks place image → ⊥

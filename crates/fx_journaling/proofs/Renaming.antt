@@ -11,10 +11,10 @@ use Rattle.fx_machine.specs.declared.event.Event.{Event}
 use Rattle.fx_machine.specs.declared.event.Event.TheVariants as event
 use Rattle.fx_machine.specs.Machine.{Machine, Step, Run, looks_of, shell_of, resting}
 use Rattle.fx_machine.specs.Turns.{TakesTurns, left_out, steps, a_round, over, BeginsTurns, FollowsSchedule, is_settled_by, has_more}
-use Rattle.fx_progress.specs.Ends.{HasEnd}
-use Rattle.fx_progress.proofs.Ending.{comes_to_end}
-use Rattle.fx_progress.proofs.Going.{goes_on}
-use Rattle.fx_progress.proofs.Tasked.{looks_at_paths}
+use Rattle.fx_machine.specs.Ends.{HasEnd}
+use Rattle.fx_machine.proofs.Ending.{comes_to_end}
+use Rattle.fx_machine.proofs.Going.{goes_on}
+use Rattle.fx_machine.proofs.Tasked.{looks_at_paths}
 use Rattle.fx_sched.specs.Named.{NamesConflict, NameConflicts}
 use Rattle.fx_sched.proofs.Named.{names_more}
 use Rattle.fx_sched.proofs.Worlds.{run_more}

@@ -5,7 +5,7 @@ use Rattle.fx_store.specs.Whole.{IsWhole}
 use Rattle.fx_spec.specs.Plans.{Turn}
 use Rattle.fx_spec.specs.Order.{BaseTree}
 use Rattle.fx_durable.specs.Journal.{Spells, Breaks}
-use Rattle.fx_replay_log.specs.Legal.{IsFirstIllegal}
+use Rattle.fx_audit.specs.Legal.{IsFirstIllegal}
 use Rattle.fx_machine.specs.Machine.{Machine}
 use Rattle.fx_journaling.specs.Kept.{SpellsLegal}
 use Rattle.fx_journaling.specs.Written.{HasWritten, IsFrontOfOutput}

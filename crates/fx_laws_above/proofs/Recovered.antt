@@ -10,7 +10,7 @@ use Rattle.fx_inputs.specs.Inputs.{HasBase}
 use Rattle.fx_durable.specs.Disk.{File, DiskView}
 use Rattle.fx_durable.specs.Journal.{Spells}
 use Rattle.fx_journaling.specs.Kept.{SpellsLegal, SpellsFront}
-use Rattle.fx_recover_command.specs.Recovered.{IsRecoveryOutcome, recovered_line}
+use Rattle.fx_commands.specs.Recoveries.Recovered.{IsRecoveryOutcome, recovered_line}
 use Rattle.fx_laws_above.specs.Recovering.{IsAfter, GivesTold, RecoversTold, RecoversFront}
 
 -- the outcome of a file that spells this order of this base is that after the order

@@ -38,7 +38,7 @@ use Rattle.fx_machine.proofs.Sums.{sum_same, sum_apart}
 use Rattle.fx_gen.specs.Draws.{draw}
 use Rattle.fx_gen.specs.Notes.{project, part_names, config}
 use Rattle.fx_gen.specs.Scripts.{tag, kind_of, project_of}
-use Rattle.fx_gen_laws.specs.Trees.{description_tree, count_tree, log_tree, txn_tree}
+use Rattle.fx_gen.specs.Trees.{description_tree, count_tree, log_tree, txn_tree}
 use Rattle.fx_laws_above.proofs.Adding.{length-with, union_is}
 use Rattle.fx_laws_above.proofs.Counting.{IsOne, number_of}
 use Rattle.fx_laws_above.proofs.Steps.{Does, HasCount, count_does, log_does}

@@ -32,7 +32,7 @@ use Rattle.fx_spec.proofs.EditsMake.{IsNameSet-with}
 use Rattle.fx_spec.proofs.Tasks.{eq_paths}
 use Rattle.fx_gen.specs.Notes.{project, part_names, config}
 use Rattle.fx_gen.specs.Scripts.{tag}
-use Rattle.fx_gen_laws.specs.Trees.{description_tree, count_tree, log_tree}
+use Rattle.fx_gen.specs.Trees.{description_tree, count_tree, log_tree}
 use Rattle.fx_laws_above.proofs.Adding.{adds, united_with}
 use Rattle.fx_laws.proofs.Accepted.{file_stored, dir_stored}
 use Rattle.fx_laws.proofs.Stored.{after-asking, result-asking, after-then, result-then, store_effect}

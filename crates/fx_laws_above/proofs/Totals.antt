@@ -24,9 +24,9 @@ use Rattle.fx_report.specs.Entries.{commands_or_none, entry, entries_from, entri
 use Rattle.fx_gen.specs.Notes.{nodes, project}
 use Rattle.fx_gen.specs.Scripts.{kind_of, project_of, counting_of, logging_of}
 use Rattle.fx_gen.proofs.Ranges.{counting_rest}
-use Rattle.fx_gen_laws.specs.Trees.{description_tree, txn_tree, script_tree}
-use Rattle.fx_large.specs.Base.{generated_base, plan_to}
-use Rattle.fx_large.specs.Summary.{is_done, done_of, integer_or_zero, counted_at, logged_at, counted_to, logged_to, node_count, lines, summary}
+use Rattle.fx_gen.specs.Trees.{description_tree, txn_tree, script_tree}
+use Rattle.fx_large_commands.specs.Base.{generated_base, plan_to}
+use Rattle.fx_large_commands.specs.Summary.{is_done, done_of, integer_or_zero, counted_at, logged_at, counted_to, logged_to, node_count, lines, summary}
 use Rattle.fx_laws_above.specs.Totals.{counting_total, logs, five_lines, last_generated, SumsUp, LargeTellsTheSame}
 use Rattle.fx_laws_above.proofs.Generated.{begins}
 use Rattle.fx_laws_above.proofs.Counting.{IsOne, number_of, each_is_one, each_once, counted_once, has_1600}

@@ -19,7 +19,7 @@ use Rattle.fx_spec.specs.Place.{Address, First, Second, Down, Elem, place, place
 use Rattle.fx_spec.specs.Task.{result, after}
 use Rattle.fx_spec.specs.Transaction.{Standing, run_block}
 use Rattle.fx_gen.specs.Notes.{project, part_names, config}
-use Rattle.fx_gen_laws.specs.Trees.{description_tree, act}
+use Rattle.fx_gen.specs.Trees.{description_tree, act}
 use Rattle.fx_laws_above.proofs.Sixteen.{each_of_16}
 
 abbrev pub count_path : ℕ → List (List ℕ)

@@ -7,7 +7,7 @@ use Rattle.fx_text.specs.declared.text.TheConstants.{TEXT_LIMIT}
 use Rattle.fx_expr.specs.declared.word.TheConstants.{WORD_LIMIT}
 use Rattle.fx_read_report.specs.declared.values.TheConstants.{VALUE_LEVELS}
 use Rattle.fx_inputs.specs.declared.views.TheConstants.{VIEWS_WORD}
-use Rattle.fx_audit_command.specs.declared.reading.TheConstants.{REPORT_LIMIT, REPORT_WORD}
+use Rattle.fx_commands.specs.declared.auditing.reading.TheConstants.{REPORT_LIMIT, REPORT_WORD}
 
 pub record LimitsAreThese : Type 0 where
   pub name : MAX_NAME_BYTES ≡ 255

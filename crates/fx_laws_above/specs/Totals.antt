@@ -5,8 +5,8 @@ use Rattle.fx_store.specs.Whole.{Nodes}
 use Rattle.fx_spec.specs.Order.{IsComplete, state}
 use Rattle.fx_spec.specs.Plans.{Turn}
 use Rattle.fx_gen.specs.Scripts.{counting_of, logging_of}
-use Rattle.fx_large.specs.Base.{generated_base}
-use Rattle.fx_large.specs.Summary.{done_of, counted_in, logged_in, node_count, summary}
+use Rattle.fx_large_commands.specs.Base.{generated_base}
+use Rattle.fx_large_commands.specs.Summary.{done_of, counted_in, logged_in, node_count, summary}
 
 -- how many of the 1600 transactions of the eight scripts count, and how many log
 abbrev pub counting_total : ℕ → ℕ

@@ -1,7 +1,9 @@
+pub mod Asks
+pub mod Ends
 pub mod Explained
+pub mod Laws
 pub mod Machine
 pub mod Measure
 pub mod Passes
-pub mod Turns
 pub mod Tried
-pub mod Laws
+pub mod Turns

@@ -1,10 +1,12 @@
-//! Attempts, entries and events of a log, and the machine of looks and settles whose runs a log's history is.
+//! Attempts, entries and events of a log, and the machine of looks and settles whose runs a log's history is; its laws,
+//! and those of progress.
 #![tactic(auto)]
 
 mod attempt;
 mod entry;
 mod event;
 pub mod laws;
+pub mod progress;
 mod retry;
 
 pub use attempt::Attempt;

@@ -9,7 +9,7 @@ use Rattle.fx_machine.specs.declared.retry.Retry.{Retry}
 use Rattle.fx_machine.specs.Machine.{shell_of}
 use Rattle.fx_machine.specs.Tried.{conflicts_of}
 use Rattle.fx_machine.specs.Turns.{is_settled_by}
-use Rattle.fx_progress.proofs.Turning.{settled_by, settled_cons}
+use Rattle.fx_machine.proofs.Turning.{settled_by, settled_cons}
 use Rattle.fx_sched.specs.World.{noted}
 
 -- ---- conflicts

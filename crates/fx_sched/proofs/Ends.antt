@@ -13,7 +13,7 @@ use Rattle.fx_machine.specs.Tried.{conflicts_of, retries_of, retry_tree}
 use Rattle.fx_machine.specs.Turns.{TakesTurns}
 use Rattle.fx_machine.proofs.Complete.{complete_runs}
 use Rattle.fx_machine.proofs.Weight.{length_first}
-use Rattle.fx_progress.proofs.Resting.{at_rest, completed}
+use Rattle.fx_machine.proofs.Resting.{at_rest, completed}
 use Rattle.fx_sched.specs.declared.schedule.Traced.{Traced}
 use Rattle.fx_sched.specs.Named.{NameConflicts}
 use Rattle.fx_sched.specs.Recorded.{Play, joined, HadTurns, HadRounds}

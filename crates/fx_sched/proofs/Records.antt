@@ -18,7 +18,7 @@ use Rattle.fx_machine.specs.Turns.{TakesTurns, left_out, steps, a_round, over as
 use Rattle.fx_machine.proofs.Weight.{weight, weight_falls}
 use Rattle.fx_machine.proofs.Turns.{first_contains}
 use Rattle.fx_board.specs.Log.{Log}
-use Rattle.fx_progress.proofs.Turning.{settled_by, next_counts, some_within, more_is_left, runs_on}
+use Rattle.fx_machine.proofs.Turning.{settled_by, next_counts, some_within, more_is_left, runs_on}
 use Rattle.fx_sched.specs.declared.shell.Shell.{Shell}
 use Rattle.fx_sched.specs.Left.{SomeLeft}
 use Rattle.fx_sched.specs.Named.{NameConflicts}

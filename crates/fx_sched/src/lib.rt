@@ -1,6 +1,7 @@
-//! Several shells on one thread: single steps of a shell, and whole runs by a schedule.
+//! Several shells on one thread: single steps of a shell, and whole runs by a schedule; and laws on diaries of shells.
 #![tactic(auto)]
 
+pub mod laws;
 mod moves;
 mod present;
 mod room;

@@ -1,2 +1,5 @@
+pub mod Kept
 pub mod Passes
 pub mod Shared
+pub mod Tables
+pub mod Versions

@@ -5,24 +5,24 @@ use Rattle.fx_outside.specs.Host.{HostView}
 use Rattle.fx_outside.specs.Sink.{SinkView}
 use Rattle.fx_outside.specs.Tree.{Tree}
 use Rattle.fx_outside.proofs.Views.{reads_none}
-use Rattle.fx_audit_command.proofs.Completing.{audit_completes}
+use Rattle.fx_commands.proofs.Audits.Completing.{audit_completes}
 use Rattle.fx_command.specs.declared.status.Status.{Status}
 use Rattle.fx_command.specs.declared.status.Status.TheVariants as status
 use Rattle.fx_command.proofs.Told.{if_some_map, same, some_unit}
 use Rattle.fx_durable.specs.Disk.{DiskView}
 use Rattle.fx_durable.proofs.Choices.{unasked}
-use Rattle.fx_large.specs.GenRows.{gen_making}
-use Rattle.fx_journal_command.proofs.Completing.{journal_completes, journal_no_memory}
-use Rattle.fx_journal_command.proofs.Keeping.{unbegun_keeps}
-use Rattle.fx_large.specs.LargeRows.{large_making}
+use Rattle.fx_large_commands.specs.GenRows.{gen_making}
+use Rattle.fx_run_commands.proofs.Journals.Completing.{journal_completes, journal_no_memory}
+use Rattle.fx_run_commands.proofs.Journals.Keeping.{unbegun_keeps}
+use Rattle.fx_large_commands.specs.LargeRows.{large_making}
 use Rattle.fx_command.specs.Table.{making_only}
 use Rattle.fx_command.proofs.Readings.{nothing_refused}
 use Rattle.fx_command.proofs.Tables as tables
-use Rattle.fx_recover_command.proofs.Completing.{recover_completes}
-use Rattle.fx_recover_command.proofs.Ending as recovering
-use Rattle.fx_run_command.proofs.Completing.{run_completes}
-use Rattle.fx_run_command.proofs.Ending.{no_memory}
-use Rattle.fx_show.proofs.Completing.{show_completes}
+use Rattle.fx_commands.proofs.Recoveries.Completing.{recover_completes}
+use Rattle.fx_commands.proofs.Recoveries.Ending as recovering
+use Rattle.fx_run_commands.proofs.Runs.Completing.{run_completes}
+use Rattle.fx_run_commands.proofs.Runs.Ending.{no_memory}
+use Rattle.fx_commands.proofs.Shows.Completing.{show_completes}
 use Rattle.fx_views_command.proofs.Completing.{views_completes}
 use Rattle.fx_views_command.proofs.Ending as viewing
 use Rattle.fx_top.specs.Rows.{AsksInside, Row, LeavesDisk, KeepsWrittenOrder, IsProper, HasDiskFault, Completes}

@@ -5,20 +5,20 @@ use Rattle.fx_outside.specs.Host.{HostView, Guard}
 use Rattle.fx_outside.specs.Sink.{SinkView}
 use Rattle.fx_outside.specs.Tree.{Tree}
 use Rattle.fx_words.specs.Job.{Job, Run, Show, Gen, Large, Audit, Journal, Recover, Views}
-use Rattle.fx_audit_command.specs.Rows.{audit_query, LetsAudit, IsProperAudit}
+use Rattle.fx_commands.specs.Audits.Rows.{audit_query, LetsAudit, IsProperAudit}
 use Rattle.fx_command.specs.declared.status.Status.{Status}
 use Rattle.fx_command.specs.declared.status.Status.TheVariants as status
 use Rattle.fx_durable.specs.Disk.{DiskView}
-use Rattle.fx_large.specs.GenRows.{gen_making}
-use Rattle.fx_journal_command.specs.Rows.{JournalRow, KeepsJournal, IsProperJournal}
-use Rattle.fx_large.specs.LargeRows.{large_making}
+use Rattle.fx_large_commands.specs.GenRows.{gen_making}
+use Rattle.fx_run_commands.specs.Journals.Rows.{JournalRow, KeepsJournal, IsProperJournal}
+use Rattle.fx_large_commands.specs.LargeRows.{large_making}
 use Rattle.fx_command.specs.Out.{IsProperOut, LetsOut}
 use Rattle.fx_command.specs.Query.{QueryRow}
 use Rattle.fx_command.specs.Table.{CommandRow, making_only}
-use Rattle.fx_recover_command.specs.Rows.{RecoverRow, LetsRecover, IsProperRecover}
-use Rattle.fx_run_command.specs.Rows.{run_command, LetsRun, IsProperRun}
-use Rattle.fx_show.specs.Rows.{show_query, LetsShow}
-use Rattle.fx_show.specs.Shows.{IsProperShow}
+use Rattle.fx_commands.specs.Recoveries.Rows.{RecoverRow, LetsRecover, IsProperRecover}
+use Rattle.fx_run_commands.specs.Runs.Rows.{run_command, LetsRun, IsProperRun}
+use Rattle.fx_commands.specs.Shows.Rows.{show_query, LetsShow}
+use Rattle.fx_commands.specs.Shows.Showing.{IsProperShow}
 use Rattle.fx_views_command.specs.Rows.{views_command, LetsViewsRun, IsProperViews}
 
 -- the table, by the command

@@ -7,15 +7,12 @@ ghost use Rattle.fx_top.specs.Waits.{may_wait};
 ghost use Rattle.fx_command.specs.Left.{IsUnasked};
 ghost use Rattle.fx_command.specs.StatusOf.{status_of};
 
-use fx_audit_command::audit;
 use fx_command::Status;
+use fx_commands::{audit, recover, show};
 use fx_durable::Disk;
-use fx_journal_command::journal;
-use fx_large::{run_generated, write_generated};
+use fx_large_commands::{run_generated, write_generated};
 use fx_outside::{Gate, Host, Sink, Words};
-use fx_recover_command::recover;
-use fx_run_command::{run, trace};
-use fx_show::show;
+use fx_run_commands::{journal, run, trace};
 use fx_views_command::views;
 use fx_words::{Job, RunMode, WordsFault, job_of};
 use std::alloc::Global;

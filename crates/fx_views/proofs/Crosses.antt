@@ -10,9 +10,9 @@ use Rattle.atomic_table.proofs.send_lease.SendLease.TheSendSync.{the_sync as tab
 use Rattle.fx_expr.proofs.Crosses.{Values-send}
 use Rattle.fx_spec.proofs.Crosses.{Base-send, Base-sync, End-send}
 use Rattle.fx_machine.proofs.Crosses.{Retry-send}
-use Rattle.fx_snap.proofs.Crosses.{Versioned-send}
-use Rattle.fx_snap.specs.contracts.versioned.Versioned as versioned
-use Rattle.fx_snap.specs.contracts.versioned.VersionedKept.TheImpl as kept
+use Rattle.fx_shared.proofs.Crosses.{Versioned-send}
+use Rattle.fx_shared.specs.contracts.versioned.Versioned as versioned
+use Rattle.fx_shared.specs.contracts.versioned.VersionedKept.TheImpl as kept
 use Rattle.fx_shared.specs.contracts.shares.Shares as shares
 use Rattle.fx_report.specs.contracts.printed.View as view
 use Rattle.fx_workers.specs.contracts.crew.Crew as crew

@@ -7,7 +7,7 @@ ghost use Rattle.fx_views.specs.Past.{AreAt, AreAt-prop, WasAt, VouchesAt, begin
 
 use fx_base::NoMemory;
 use fx_outside::{Gate, Moment};
-use fx_snap::{Snaps, Versioned};
+use fx_shared::{Snaps, Versioned};
 use fx_store::{Node, Path};
 use fx_turn::Seat;
 use fx_view::{Reader, Reads, Stop};

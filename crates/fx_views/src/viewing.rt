@@ -16,7 +16,7 @@ use fx_machine::Attempt;
 use fx_outside::{Gate, Moment};
 use fx_report::{View, Viewed};
 use fx_run::run;
-use fx_snap::Versioned;
+use fx_shared::Versioned;
 use fx_spec::Base;
 use fx_view::Stop;
 use fx_workers::Crew;

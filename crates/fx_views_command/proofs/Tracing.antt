@@ -6,11 +6,11 @@ use Rattle.fx_board.specs.Board.{last_state}
 use Rattle.fx_board.specs.Log.{Log}
 use Rattle.fx_machine.specs.declared.retry.Retry.{Retry}
 use Rattle.fx_machine.specs.Tried.{retry_tree}
-use Rattle.fx_diary.specs.Runs.{IsOfSomeRun}
+use Rattle.fx_sched.specs.Runs.{IsOfSomeRun}
 use Rattle.fx_report.specs.declared.printed.View.{View}
 use Rattle.fx_report.specs.Entries.{report}
 use Rattle.fx_report.specs.Views.{views_text}
-use Rattle.fx_run_command.proofs.Tracing.{behind_some_trace}
+use Rattle.fx_run_commands.proofs.Runs.Tracing.{behind_some_trace}
 use Rattle.fx_views.specs.Views.{AreViews}
 use Rattle.fx_views_command.specs.Answers.{IsViewsRunFrom}
 

@@ -13,7 +13,7 @@ use fx_board::Board;
 use fx_inputs::Bases;
 use fx_outside::Gate;
 use fx_report::{Retries, Viewed, report, views_text};
-use fx_snap::Versioned;
+use fx_shared::Versioned;
 use fx_store::LongText;
 use fx_views::run_views;
 use std::alloc::Global;

@@ -7,7 +7,7 @@ use Rattle.fx_machine.specs.Explained.{IsExplained}
 use Rattle.fx_run.specs.Running.{Foretells}
 use Rattle.fx_shared.specs.Passes.{LogView}
 use Rattle.fx_shared.proofs.Truths.{begins_short}
-use Rattle.fx_diary.proofs.Positions.{in_turn_from}
+use Rattle.fx_sched.proofs.Positions.{in_turn_from}
 use Rattle.fx_workers.specs.Live.{Vouches}
 use Rattle.fx_workers.specs.Working.{HasTried}
 

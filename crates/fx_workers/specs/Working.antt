@@ -9,8 +9,8 @@ use Rattle.fx_machine.specs.Explained.{IsExplained}
 use Rattle.fx_machine.specs.Machine.{next_number}
 use Rattle.fx_run.specs.Running.{Foretells}
 use Rattle.fx_board.specs.Board.{IsNamed}
-use Rattle.fx_diary.specs.Diaries.{Diary}
-use Rattle.fx_diary.specs.Positions.{InTurn}
+use Rattle.fx_sched.specs.Diaries.{Diary}
+use Rattle.fx_sched.specs.Positions.{InTurn}
 use Rattle.fx_shared.specs.Passes.{LogView, HasBase, HasSeenMore, HasSettled, log_over}
 use Rattle.fx_workers.specs.declared.attempting.Outcome.{Outcome}
 use Rattle.fx_workers.specs.declared.attempting.Outcome.TheVariants as outcome

@@ -1,11 +1,10 @@
 //! Tokens, expressions, shapes, descriptions and scripts.
 
 use fx_base::{NoMemory, SOURCE_LIMIT, TXN_LIMIT};
-use fx_command::{Message, Status, TextFault};
+use fx_command::{Message, SourceFault, Status, TextFault, description_of, script_of};
 use fx_lex::{LexFault, Spanned, Token, Tokens, lex};
 use fx_outside::{HostText, Words};
 use fx_parse::{ParseFault, parse_expr, parse_shape};
-use fx_source::{SourceFault, description_of, script_of};
 use std::alloc::Global;
 use std::fmt::Write;
 use test_stage::{add_bytes, tell, unescaped};

@@ -3,11 +3,11 @@ ghost use Rattle.std.specs.Prelude.{◌≡◌, []};
 
 use fx_base::{NoMemory, SHELL_LIMIT};
 use fx_check::check;
+use fx_command::{SourceFault, script_of};
 use fx_folder::load;
 use fx_outside::{HostKind, HostText, MemoryHost};
-use fx_source::{SourceFault, script_of};
+use fx_source_parse::spec::parse;
 use fx_spec::{Base, Checked, Defs, Description, Plan, Spec};
-use fx_spec_parse::parse;
 use fx_store::Filestore;
 use std::alloc::Global;
 use std::sync::Arc;

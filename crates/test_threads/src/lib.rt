@@ -1,4 +1,4 @@
-//! Tests of runs on threads. The library is empty.
+//! Tests of threads: of turns, of passes over one shared log, and of runs. The library is empty.
 #![tactic(auto)]
 
 #[cfg(test)]
@@ -10,8 +10,14 @@ mod held;
 #[cfg(test)]
 mod holds;
 #[cfg(test)]
+mod meeting;
+#[cfg(test)]
 mod orders;
+#[cfg(test)]
+mod passes;
 #[cfg(test)]
 mod runs;
 #[cfg(test)]
 mod stores;
+#[cfg(test)]
+mod turns;

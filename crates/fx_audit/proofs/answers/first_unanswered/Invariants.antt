@@ -1,6 +1,6 @@
 use Rattle.std.proofs.Common.{◌≡◌, take}
 use Rattle.fx_spec.specs.Bases.{base_tree}
-use Rattle.fx_replay_log.specs.Orders.{logged}
+use Rattle.fx_audit.specs.Orders.{logged}
 use Rattle.fx_audit.specs.Verdicts.{order_told}
 use Rattle.fx_audit.proofs.Answering.{AnsweredBelow}
 use Rattle.fx_audit.proofs.answers.first_unanswered.Given as goal

@@ -2,7 +2,7 @@ use denote.Param.Send.{sendable}
 use Rattle.std.proofs.Common.{rules, [], ◌∷◌, length, subst, sym, ◌∙◌, arith, length-append}
 use Rattle.std.proofs.lemmas.Iterator.Consumers.{YieldsList-turn, YieldsList-end}
 use Rattle.std.proofs.lemmas.Iterator.Adapters.{YieldsList-from_vec}
-use Rattle.fx_snap.proofs.Crosses.{Versioned-send}
+use Rattle.fx_shared.proofs.Crosses.{Versioned-send}
 use Rattle.fx_workers.specs.Crews.{base_of}
 use Rattle.fx_workers.specs.Workers.{IsDone}
 use Rattle.fx_workers.proofs.Works.{done_at}

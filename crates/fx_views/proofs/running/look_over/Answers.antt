@@ -1,7 +1,7 @@
 use denote.Param.Send.{sendable}
 use Rattle.std.proofs.Common.{◌∙◌, Some, ap}
 use Rattle.fx_spec.specs.Bases.{base_tree}
-use Rattle.fx_snap.proofs.Crosses.{Versioned-send}
+use Rattle.fx_shared.proofs.Crosses.{Versioned-send}
 use Rattle.fx_turn.specs.Seats.{view}
 use Rattle.fx_shared.specs.Passes.{LogView}
 use Rattle.fx_workers.specs.Crews.{base_of}

@@ -1,8 +1,8 @@
 use denote.Param.Send.{sendable}
 use Rattle.fx_spec.specs.Bases.{base_tree}
-use Rattle.fx_snap.proofs.Crosses.{Versioned-send}
+use Rattle.fx_shared.proofs.Crosses.{Versioned-send}
 use Rattle.fx_turn.specs.Seats.{view}
-use Rattle.fx_diary.proofs.Closing.{run_ok}
+use Rattle.fx_sched.proofs.Closing.{run_ok}
 use Rattle.fx_views.proofs.Closings.{complete_over, run_over, viewed_over}
 use Rattle.fx_views.proofs.running.run_shared.Goals as goal
 

@@ -4,7 +4,7 @@ use Rattle.std.proofs.Common.{◌≡◌, Some, sym, subst, arith}
 use Rattle.std.specs.Prelude.{slice_index_or}
 use Rattle.std.proofs.Crossing.{crosses}
 use Rattle.atomic_table.proofs.shared.Seat.TheSendSync.{the_send as table_seat}
-use Rattle.fx_snap.proofs.Crosses.{Versioned-send}
+use Rattle.fx_shared.proofs.Crosses.{Versioned-send}
 use Rattle.fx_turn.specs.Seats.{view}
 use Rattle.fx_workers.specs.Crews.{base_of}
 use Rattle.fx_workers.specs.Workers.{IsFresh, AreDone}

@@ -6,7 +6,7 @@ use base.Fml.{Lft}
 use Rattle.std.proofs.Crossing.{crosses}
 use Rattle.atomic_table.proofs.shared.Seat.TheSendSync.{the_send as table_seat}
 use Rattle.fx_spec.proofs.Crosses.{Base-send, Base-sync}
-use Rattle.fx_snap.proofs.Crosses.{Versioned-send}
+use Rattle.fx_shared.proofs.Crosses.{Versioned-send}
 use Rattle.fx_views.proofs.Crosses.{Snaps-sync, Worked-send}
 use Rattle.fx_views.proofs.running.work_beside.Goals as goal
 

@@ -1,6 +1,6 @@
 use denote.Param.Send.{sendable}
 use Rattle.std.proofs.Common.{◌≡◌, ◌≤◌, length, sym, subst, ◌∙◌, arith}
-use Rattle.fx_snap.proofs.Crosses.{Versioned-send}
+use Rattle.fx_shared.proofs.Crosses.{Versioned-send}
 use Rattle.fx_spec.specs.Bases.{base_tree}
 use Rattle.fx_turn.specs.Seats.{view}
 use Rattle.fx_shared.proofs.Truths.{begins_short}

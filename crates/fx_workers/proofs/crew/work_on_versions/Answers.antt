@@ -1,5 +1,5 @@
 use denote.Param.Send.{sendable}
-use Rattle.fx_snap.proofs.Crosses.{Versioned-send}
+use Rattle.fx_shared.proofs.Crosses.{Versioned-send}
 use Rattle.fx_workers.proofs.crew.work_on_versions.Goals as goal
 
 pub new-desk-requires-send-T : goal.new-desk-requires-send-T

@@ -1,5 +1,5 @@
 use denote.Param.Send.{sendable}
-use Rattle.fx_snap.proofs.Crosses.{Versioned-send}
+use Rattle.fx_shared.proofs.Crosses.{Versioned-send}
 use Rattle.fx_views.proofs.past.Past.new.Goals as goal
 
 pub number-requires-send-K : goal.number-requires-send-K

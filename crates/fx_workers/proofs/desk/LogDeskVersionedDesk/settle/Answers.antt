@@ -1,5 +1,5 @@
 use denote.Param.Send.{sendable}
-use Rattle.fx_snap.proofs.Crosses.{Versioned-send}
+use Rattle.fx_shared.proofs.Crosses.{Versioned-send}
 use Rattle.fx_workers.proofs.desk.LogDeskVersionedDesk.settle.Goals as goal
 
 pub settle_by_turn-requires-send-T : goal.settle_by_turn-requires-send-T

@@ -1,0 +1,55 @@
+-- The cause for which a text is refused, from the faults of its parser and of its check.
+use Rattle.std.proofs.Common.{◌≡◌, ◌∙◌, ℕ, List, Ok, Err, sym, ap}
+use Rattle.fx_check.specs.declared.fault.CheckFault.{CheckFault}
+use Rattle.fx_check.specs.declared.fault.CheckFault.TheVariants as check
+use Rattle.fx_check.specs.Checked.{checked_text}
+use Rattle.fx_check.specs.Faults.{Fault}
+use Rattle.fx_check.specs.Gives.{IsFault}
+use Rattle.fx_check.proofs.Texts.{is_text}
+use Rattle.fx_expr.specs.ShapeTree.{ShapeTree}
+use Rattle.fx_expr.specs.Views.{shape_tree}
+use Rattle.fx_grammar.specs.Refused.{IsRefusedDescription}
+use Rattle.fx_grammar.specs.Texts as texts
+use Rattle.fx_parse.specs.declared.fault.ParseFault.{ParseFault}
+use Rattle.fx_parse.specs.declared.fault.ParseFault.TheVariants as parse
+use Rattle.fx_spec.specs.WellShaped.{written_shape}
+use Rattle.fx_spec.specs.Written.{TextTree}
+use Rattle.fx_command.specs.declared.status.TextFault.{TextFault}
+use Rattle.fx_command.specs.declared.status.TextFault.TheVariants as fault
+use Rattle.fx_command.specs.Described.{HasDescriptionCause, IsRefusedFor, IsUndescribed}
+use Rattle.fx_command.specs.Faults.{of_parse, of_check}
+
+-- no fault but want of memory comes where the text stands for a description
+abbrev OnlyMemory : List ℕ → ParseFault → Type 0
+OnlyMemory text f = (written : TextTree) → texts.IsDescription text written → f ≡ parse.NoMemory
+
+refused : (text : List ℕ) (cause : TextFault) (f : ParseFault) → (f ≡ parse.NoMemory → ⊥) → OnlyMemory text f → HasDescriptionCause text cause → IsRefusedFor text cause
+refused text cause f isnt only has = record { none = λ spec is. isnt (only is.written is.read); cause = has }
+
+pub not_parsed : (text : List ℕ) (f : ParseFault) → OnlyMemory text f → IsRefusedDescription text f → IsUndescribed text (of_parse f)
+not_parsed text parse.TooLarge only has = refused text fault.TooLarge parse.TooLarge (λ e. cc) only has
+not_parsed text (parse.BadToken n) only has = refused text (fault.BadToken n) (parse.BadToken n) (λ e. cc) only has
+not_parsed text (parse.Unexpected n) only has = refused text (fault.Unexpected n) (parse.Unexpected n) (λ e. cc) only has
+not_parsed text (parse.TooNested n) only has = refused text (fault.TooNested n) (parse.TooNested n) (λ e. cc) only has
+not_parsed text parse.NoMemory only has = tt
+
+-- a description with a fault is not one without
+unshaped : (written : TextTree) (first : Fault) (s : ShapeTree) → checked_text written ≡ Err first → checked_text written ≡ Ok s → ⊥
+unshaped written first s fault fine = let both : Ok s ≡ Err first = sym fine ∙ fault in cc
+
+faulty : (text : List ℕ) (written : TextTree) (cause : TextFault) (first : Fault) → ((other : TextTree) → texts.IsDescription text other → written ≡ other)
+    → checked_text written ≡ Err first → HasDescriptionCause text cause → IsRefusedFor text cause
+faulty text written cause first only found has = record {
+  none = λ other is.
+      unshaped written first (written_shape is.written.root) found (ap checked_text (only is.written is.read) ∙ is_text is.written is.shapes.defs is.shapes.root);
+  cause = has;
+}
+
+pub not_checked : (text : List ℕ) (written : TextTree) (f : CheckFault) → texts.IsDescription text written → ((other : TextTree) → texts.IsDescription text other → written ≡ other)
+    → IsFault f (checked_text written) → IsUndescribed text (of_check f)
+not_checked text written (check.Unknown word) read only found = faulty text written (fault.Unknown word) (Fault.unknown word) only found (record { written = written; read = read; found = found })
+not_checked text written (check.TypeDiffers a b) read only found =
+    faulty text written (fault.TypeDiffers a b) (Fault.differs (shape_tree a) (shape_tree b)) only found (record { written = written; read = read; found = found })
+not_checked text written (check.Repeated word) read only found = faulty text written (fault.Repeated word) (Fault.repeated word) only found (record { written = written; read = read; found = found })
+not_checked text written check.TooMany read only found = faulty text written fault.TooMany Fault.too_many only found (record { written = written; read = read; found = found })
+not_checked text written check.NoMemory read only found = tt

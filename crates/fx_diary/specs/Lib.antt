@@ -1,4 +1,0 @@
-pub mod Diaries
-pub mod Runs
-pub mod Laws
-pub mod Positions

@@ -1,5 +1,0 @@
-use Rattle.fx_folder_laws.proofs.Saved.{folders_are_of_one}
-use Rattle.fx_folder_laws.proofs.folders_are_of_one.Goals as goal
-
-pub returns : goal.returns
-returns c = folders_are_of_one

@@ -1,5 +1,0 @@
-use Rattle.fx_folder_laws.proofs.Saved.{saved_folders_are_same}
-use Rattle.fx_folder_laws.proofs.saved_folders_are_same.Goals as goal
-
-pub returns : goal.returns
-returns c = saved_folders_are_same

@@ -1,4 +1,0 @@
-pub mod Cutting
-pub mod Described
-pub mod Lined
-pub mod Scripted

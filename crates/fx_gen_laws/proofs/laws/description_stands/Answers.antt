@@ -1,5 +1,0 @@
-use Rattle.fx_gen_laws.proofs.Described.{description_stands}
-use Rattle.fx_gen_laws.proofs.laws.description_stands.Goals as goal
-
-pub returns : goal.returns
-returns c = description_stands

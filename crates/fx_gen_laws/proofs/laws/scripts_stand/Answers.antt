@@ -1,5 +1,0 @@
-use Rattle.fx_gen_laws.proofs.Scripted.{scripts_stand}
-use Rattle.fx_gen_laws.proofs.laws.scripts_stand.Goals as goal
-
-pub returns : goal.returns
-returns c = scripts_stand

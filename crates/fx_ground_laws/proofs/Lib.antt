@@ -1,3 +1,0 @@
-pub mod PathTexts
-pub mod Written
-pub mod Worded

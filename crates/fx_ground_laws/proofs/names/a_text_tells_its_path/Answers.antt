@@ -1,5 +1,0 @@
-use Rattle.fx_ground_laws.proofs.PathTexts.{texts_tell_paths}
-use Rattle.fx_ground_laws.proofs.names.a_text_tells_its_path.Goals as goal
-
-pub returns : goal.returns
-returns c = texts_tell_paths

@@ -1,7 +1,0 @@
-//! The command `journal`, which runs its scripts by a schedule and keeps each commit in a journal on a disk before its line is
-//! written.
-#![tactic(auto)]
-
-mod command;
-
-pub use command::journal;

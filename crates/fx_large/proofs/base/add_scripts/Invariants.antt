@@ -1,5 +1,0 @@
-use Rattle.fx_large.specs.Base.{IsReading}
-use Rattle.fx_large.proofs.base.add_scripts.Given as goal
-
-abbrev pub invariant-scripts : goal.invariant-scripts
-invariant-scripts l = IsReading l.texts l.k l.plan

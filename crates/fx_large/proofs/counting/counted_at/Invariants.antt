@@ -1,4 +1,0 @@
-use Rattle.fx_large.proofs.counting.counted_at.Given as goal
-
-abbrev pub ghosts-integer_by : goal.ghosts-integer_by
-ghosts-integer_by a = record { name = a.blank.name; parts = a.blank.parts }

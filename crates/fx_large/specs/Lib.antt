@@ -1,6 +1,0 @@
-pub mod Summary
-pub mod Case
-pub mod GenRows
-pub mod Wrote
-pub mod Base
-pub mod LargeRows

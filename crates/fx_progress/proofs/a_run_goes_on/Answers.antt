@@ -1,6 +1,0 @@
-use Rattle.fx_progress.proofs.Going.{goes_on}
-use Rattle.fx_progress.proofs.Tasked.{looks_at_paths}
-use Rattle.fx_progress.proofs.a_run_goes_on.Goals as goal
-
-pub returns : goal.returns
-returns c = goes_on looks_at_paths

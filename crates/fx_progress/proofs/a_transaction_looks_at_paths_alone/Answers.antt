@@ -1,5 +1,0 @@
-use Rattle.fx_progress.proofs.Tasked.{looks_at_paths}
-use Rattle.fx_progress.proofs.a_transaction_looks_at_paths_alone.Goals as goal
-
-pub returns : goal.returns
-returns c = looks_at_paths

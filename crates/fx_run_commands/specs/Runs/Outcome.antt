@@ -1,0 +1,40 @@
+-- What a run comes to: the output, and the last filestore.
+use Rattle.std.specs.Prelude.{◌≡◌, ℕ, ◌<◌, List, ◌++◌, All, map, length}
+use Rattle.fx_store.specs.Whole.{Nodes}
+use Rattle.fx_outside.specs.Tree.{Tree}
+use Rattle.fx_spec.specs.Plans.{Turn}
+use Rattle.fx_spec.specs.Order.{BaseTree, IsComplete, RetriesOk, state}
+use Rattle.fx_machine.specs.declared.retry.Retry.{Retry}
+use Rattle.fx_machine.specs.Tried.{retry_tree}
+use Rattle.fx_report.specs.Entries.{report}
+use Rattle.fx_report.specs.Events.{lines}
+use Rattle.fx_watch.specs.Outcome.{IsTracedBy, IsWatchedAs}
+use Rattle.fx_words.specs.Job.{RunJob, Mode, Plain, Scheduled, Watched}
+use Rattle.fx_inputs.specs.Inputs.{HasBase}
+
+-- the events of a run by the schedule are printed before the report, a line for each
+abbrev pub IsTracedAs : BaseTree → List ℕ → List Turn → List Retry → List ℕ → Type 0
+IsTracedAs base schedule order retries output = IsTracedBy lines base schedule order retries output
+
+-- there is a schedule of the plan's shells by which `trace` may print this behind the lines of its events, of a run to the same order
+abbrev pub IsBehindSomeTrace : BaseTree → List Turn → List Retry → List ℕ → Type 0
+IsBehindSomeTrace base order retries output = (schedule : List ℕ) × (lines_before : List ℕ) × All (λ shell. shell < length base.plan) schedule × IsTracedAs base schedule order retries (lines_before ++ output)
+
+-- the report alone, which some `trace` prints too; or the events and the report, with what is said of the tree after each commit
+-- where it is watched
+abbrev pub IsPrintedAs : Mode → BaseTree → List Turn → List Retry → List ℕ → Type 0
+IsPrintedAs Plain base order retries output = (output ≡ report base order retries) × IsBehindSomeTrace base order retries output
+IsPrintedAs (Scheduled schedule) base order retries output = IsTracedAs base schedule order retries output
+IsPrintedAs (Watched schedule) base order retries output = IsWatchedAs base schedule order retries output
+
+-- a commit order holds every transaction of every script exactly once, each script's in its order; the printed answers and
+-- the last filestore are those of these transactions run whole, one after another in that order, on the loaded filestore
+pub record IsOutcome (t : Tree) (j : RunJob) (nodes : Nodes) (output : List ℕ) : Type 0 where
+  pub base : BaseTree
+  pub order : List Turn
+  pub retries : List Retry
+  pub begins : HasBase t j.inputs base
+  pub complete : IsComplete base order
+  pub tried : RetriesOk base order (map retry_tree retries)
+  pub printed : IsPrintedAs j.mode base order retries output
+  pub last : nodes ≡ state base order (length order)

@@ -1,0 +1,125 @@
+//! Whole runs from a base on.
+ghost use Rattle.std.specs.Prelude.{◌≡◌, ◌++◌, ◌<◌, All, IfOk, length};
+ghost use Rattle.fx_spec.specs.Bases.{base_tree};
+ghost use Rattle.fx_words.specs.Job.{Plain, Scheduled, Watched};
+ghost use Rattle.fx_words.specs.JobOf.{asked, IsJob};
+ghost use Rattle.fx_run_commands.specs.Runs.Answers.{last_of, IsPrintedTrace, IsRunFrom};
+ghost use Rattle.fx_inputs.specs.Inputs.{HasEachScript};
+
+use fx_base::NoMemory;
+use fx_board::Board;
+use fx_machine::let_go;
+use fx_outside::Gate;
+use fx_report::{event_lines, report};
+use fx_sched::{Traced, run_schedule};
+use fx_spec::Base;
+use fx_store::LongText;
+use fx_watch::run_watched;
+use fx_words::{RunJob, RunMode};
+use fx_workers::run_all;
+use std::alloc::Global;
+use std::sync::{Arc, Wait};
+use std::thread::Threads;
+
+/// A whole run: its log and its output.
+pub(crate) struct Answer {
+    pub board: Board,
+    pub output: LongText,
+}
+
+impl Answer {
+    /// Lets go of the run.
+    pub(crate) fn let_go(self) {
+        let Answer { board, output: _ } = self;
+        board.let_go();
+    }
+}
+
+/// Two texts, one after the other.
+fn joined(front: LongText, back: &LongText) -> Result<LongText, NoMemory>
+    ensures { IfOk result (λ text. text ≡ front ++ back.now) }
+{
+    let mut bytes = front.into_vec();
+    bytes.extend_from_slice(back.as_slice())?;
+    Ok(LongText::from_vec(bytes))
+}
+
+/// Runs each script on a thread of its own.
+pub(crate) fn run_base<R: Threads + Wait + Sync, G: Gate + Sync>(
+    rt: &R,
+    alloc: Global,
+    base: Arc<Base>,
+    gate: &G,
+) -> Result<Answer, NoMemory>
+    ensures { IfOk result (λ a. IsRunFrom (base_tree base.value) Plain (last_of a) a.output) }
+{
+    let (board, retries) = run_all(rt, alloc, base, gate)?;
+    let output = report(alloc, &board, &retries);
+    let_go(retries);
+    match output {
+        Ok(output) => Ok(Answer { board, output }),
+        Err(fault) => {
+            board.let_go();
+            Err(fault)
+        }
+    }
+}
+
+/// What is printed of a run by a schedule: its events, and then its report.
+fn traced_output(alloc: Global, traced: &Traced) -> Result<LongText, NoMemory>
+    ensures { IfOk result (IsPrintedTrace traced.now) }
+{
+    let report = report(alloc, &traced.board, &traced.retries)?;
+    let events = event_lines(alloc, &traced.events)?;
+    joined(events, &report)
+}
+
+/// Runs all scripts on one thread, by a schedule of shells.
+fn run_by(alloc: Global, base: Arc<Base>, schedule: &[u32]) -> Result<Answer, NoMemory>
+    requires { All (λ k. k < length base.value.plan) schedule.now }
+    ensures { IfOk result (λ a.
+        IsRunFrom (base_tree base.value) (Scheduled schedule.now) (last_of a) a.output) }
+{
+    let traced = run_schedule(alloc, base, schedule)?;
+    let output = traced_output(alloc, &traced);
+    let board = traced.into_board();
+    match output {
+        Ok(output) => Ok(Answer { board, output }),
+        Err(fault) => {
+            board.let_go();
+            Err(fault)
+        }
+    }
+}
+
+/// Runs all scripts on one thread, by a schedule of shells, and watches whether the tree has a value.
+fn run_watching(alloc: Global, base: Arc<Base>, schedule: &[u32]) -> Result<Answer, NoMemory>
+    requires { All (λ k. k < length base.value.plan) schedule.now }
+    ensures { IfOk result (λ a.
+        IsRunFrom (base_tree base.value) (Watched schedule.now) (last_of a) a.output) }
+{
+    let (board, output) = run_watched(alloc, base, schedule)?;
+    Ok(Answer { board, output })
+}
+
+/// Runs all scripts on one thread, by the job's schedule, watched or not.
+pub(crate) fn trace_base(alloc: Global, job: &RunJob, base: Arc<Base>) -> Result<Answer, NoMemory>
+    requires job { IsJob job.now }
+    requires scheduled { (asked job.now).mode ≡ Plain → ⊥ }
+    requires count { HasEachScript (asked job.now).inputs (base_tree base.value) }
+    ensures { IfOk result (λ a.
+        IsRunFrom (base_tree base.value) (asked job.now).mode (last_of a) a.output) }
+{
+    let schedule = match job.shells(alloc) {
+        Ok(schedule) => schedule,
+        Err(fault) => {
+            Base::let_go(base);
+            return Err(fault);
+        }
+    };
+    match job.mode {
+        RunMode::Plain => unreachable!(),
+        RunMode::Scheduled(_) => run_by(alloc, base, &schedule),
+        RunMode::Watched(_) => run_watching(alloc, base, &schedule),
+    }
+}

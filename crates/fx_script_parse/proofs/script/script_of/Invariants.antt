@@ -1,7 +1,0 @@
-use Rattle.std.proofs.Common.{◌≡◌, ◌-◌, length}
-use Rattle.fx_parse.specs.Reader.{kinds}
-use Rattle.fx_script_parse.specs.Reader.{txns_at, read_script}
-use Rattle.fx_script_parse.proofs.script.script_of.Given as goal
-
-abbrev pub invariant-loop-i : goal.invariant-loop-i
-invariant-loop-i l = read_script (kinds l.tokens) ≡ txns_at (length l.tokens - l._i) l.txns (kinds l.rest)

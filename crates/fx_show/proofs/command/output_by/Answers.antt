@@ -1,7 +1,0 @@
-use Rattle.fx_words.specs.JobOf.{asked_show}
-use Rattle.fx_show.proofs.Showing.{showing}
-use Rattle.fx_show.proofs.command.output_by.Goals as goal
-
-pub returns-clause-shows : goal.returns-clause-shows
-returns-clause-shows g c =
-    showing (asked_show c.args.job.now) c.args.spec.now c.in_ok-store.store.nodes c.in_ok-output.field-0 (g.H.Host.view c.args.host.now) c.requires c.in_ok-store.ensures.loaded c.in_ok-output.ensures

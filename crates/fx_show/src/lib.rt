@@ -1,8 +1,0 @@
-//! The command `show`: the value of a folder by a description.
-#![tactic(auto)]
-
-mod command;
-mod values;
-
-pub use command::show;
-pub use values::shown;

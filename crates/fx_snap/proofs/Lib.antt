@@ -1,4 +1,0 @@
-mod Searched
-mod Rooms
-mod Versionings
-pub mod Crosses

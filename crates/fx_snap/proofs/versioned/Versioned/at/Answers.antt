@@ -1,7 +1,0 @@
-use Rattle.std.proofs.Common.{sym, ap, subst, ◌∙◌}
-use Rattle.fx_snap.specs.Versions.{AreAscending}
-use Rattle.fx_snap.specs.Tables.{listed}
-use Rattle.fx_snap.proofs.versioned.Versioned.at.Goals as goal
-
-pub node_at-requires : goal.node_at-requires
-node_at-requires c = subst AreAscending (ap listed (sym c.in-Some.ensures.value) ∙ sym c.deref.ensures.value) (c.self.invariant.ascend c.args.path.now)

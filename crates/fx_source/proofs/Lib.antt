@@ -1,4 +1,0 @@
-pub mod Ahead
-pub mod DescriptionCauses
-pub mod Files
-pub mod ScriptCauses

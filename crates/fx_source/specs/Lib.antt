@@ -1,6 +1,0 @@
-pub mod Ahead
-pub mod Causes
-pub mod Described
-pub mod Faults
-pub mod Files
-pub mod Scripted
