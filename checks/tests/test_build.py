@@ -64,7 +64,13 @@ elif sys.argv[1:] == ["ci"]:
     print("0 passed, 1 failed" if fails else str(len(crates)) + " passed, 0 failed")
     sys.exit(bool(fails))
 """
-SECONDS = 30.0
+SECONDS = 120.0
+
+
+def mind_signals() -> None:
+    """Takes each signal as usual, whatever the one that runs the tests ignores."""
+    for number in (signal.SIGINT, signal.SIGTERM, signal.SIGHUP):
+        signal.signal(number, signal.SIG_DFL)
 
 
 def waited(is_so: Callable[[], bool]) -> bool:
@@ -130,6 +136,7 @@ class Build(unittest.TestCase):
             stderr=err,
             text=True,
             start_new_session=True,
+            preexec_fn=mind_signals,
         )
 
     def built(self, **words: str) -> tuple[int, str, str]:
