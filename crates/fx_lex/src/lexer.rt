@@ -6,6 +6,7 @@ ghost use Rattle.fx_lex.specs.Laws.{TokensAreUnique, BadPlaceIsUnique, TokensExc
 
 use crate::list::Tokens;
 use crate::scan::{Found, found_at};
+use crate::string::string_at;
 use crate::token::{LexFault, Spanned, Token};
 use fx_base::NoMemory;
 use fx_expr::Word;
@@ -33,21 +34,28 @@ pub fn lex(alloc: Global, text: &[u8]) -> Result<Tokens, LexFault>
     let mut items = Vec::with_capacity(alloc, text.len() / 2)?;
     let mut at = 0;
     while at < text.len() {
-        match found_at(alloc, &text[at..])? {
+        match found_at(&text[at..]) {
             Found::Gap(len) => at += len,
             Found::Word(len) => {
                 let word = Word::cut(&shared, at, at + len)?;
                 push(&mut items, Token::Word(word), at, at + len)?;
                 at += len;
             }
+            Found::Number(number, len) => {
+                push(&mut items, Token::Number(number), at, at + len)?;
+                at += len;
+            }
             Found::Mark(mark, len) => {
                 push(&mut items, Token::Mark(mark), at, at + len)?;
                 at += len;
             }
-            Found::Token(token, len) => {
-                push(&mut items, token, at, at + len)?;
-                at += len;
-            }
+            Found::Quote => match string_at(alloc, &text[at..])? {
+                Some((value, len)) => {
+                    push(&mut items, Token::Str(value), at, at + len)?;
+                    at += len;
+                }
+                None => return Err(LexFault::BadToken(at as u32)),
+            },
             Found::Nothing => return Err(LexFault::BadToken(at as u32)),
         }
     }

@@ -1,5 +1,4 @@
-ghost use Rattle.std.specs.Prelude.{◌≡◌, ◌≤◌, ◌<◌, true, length, IfOk, slice_index};
-ghost use Rattle.fx_base.specs.Limits.{source_limit};
+ghost use Rattle.std.specs.Prelude.{◌≡◌, ◌<◌, true, length, slice_index};
 ghost use Rattle.fx_expr.specs.Bytes.{has_word_start};
 ghost use Rattle.fx_lex.specs.Spelling.{is_digit};
 ghost use Rattle.fx_lex.specs.Kinds.{byte_kind};
@@ -8,21 +7,19 @@ ghost use Rattle.fx_lex.specs.Found.{IsFoundAt};
 use crate::byte::{BLANK, COMMENT, NUMBER, STRING, WORD, digits_len, kind_of, line_len, word_len};
 use crate::mark::{mark_of_one, mark_of_two};
 use crate::number::number_of;
-use crate::string::string_at;
-use crate::token::{Mark, Token};
-use fx_base::NoMemory;
+use crate::token::Mark;
 use fx_expr::WORD_LIMIT;
-use std::alloc::Global;
 
 /// What stands at a place of a text, and how many bytes it has.
-#[derive(Drop)]
+#[derive(Clone, Copy)]
 pub(crate) enum Found {
     Gap(usize),
     /// A word, which is still to be cut out of the text.
     Word(usize),
+    Number(i64, usize),
     Mark(Mark, usize),
-    /// A number or a string.
-    Token(Token, usize),
+    /// A quote, behind which a string is still to be read.
+    Quote,
     Nothing,
 }
 
@@ -46,7 +43,7 @@ fn number_at(bytes: &[u8]) -> Found
 {
     let len = digits_len(bytes);
     match number_of(&bytes[..len]) {
-        Some(number) => Found::Token(Token::Number(number), len),
+        Some(number) => Found::Number(number, len),
         None => Found::Nothing,
     }
 }
@@ -69,18 +66,18 @@ fn mark_at(bytes: &[u8]) -> Found
     }
 }
 
-/// What stands at the front: a gap, the longest token, or neither.
-pub(crate) fn found_at(alloc: Global, bytes: &[u8]) -> Result<Found, NoMemory>
-    requires some { 0 < length bytes.now }
-    requires short { length bytes.now ≤ source_limit }
-    ensures { IfOk result (IsFoundAt bytes.now) }
+/// What stands at the front: a gap, the longest token, or neither. A call would write the answer to memory first.
+#[inline(always)]
+pub(crate) fn found_at(bytes: &[u8]) -> Found
+    requires { 0 < length bytes.now }
+    ensures { IsFoundAt bytes.now result }
 {
     match kind_of(bytes[0]) {
-        BLANK => Ok(Found::Gap(1)),
-        COMMENT => Ok(Found::Gap(line_len(bytes))),
-        WORD => Ok(word_at(bytes)),
-        NUMBER => Ok(number_at(bytes)),
-        STRING => string_at(alloc, bytes),
-        _ => Ok(mark_at(bytes)),
+        BLANK => Found::Gap(1),
+        COMMENT => Found::Gap(line_len(bytes)),
+        WORD => word_at(bytes),
+        NUMBER => number_at(bytes),
+        STRING => Found::Quote,
+        _ => mark_at(bytes),
     }
 }

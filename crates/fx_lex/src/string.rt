@@ -3,11 +3,9 @@ ghost use Rattle.std.specs.Char.{digit_value};
 ghost use Rattle.std.specs.List.{prefix_len};
 ghost use Rattle.fx_base.specs.Limits.{source_limit};
 ghost use Rattle.fx_lex.specs.Spelling.{Escaped, is_item, item_value};
-ghost use Rattle.fx_lex.specs.Found.{IsFoundAt};
+ghost use Rattle.fx_lex.specs.Found.{IsStringAt};
 ghost use Rattle.fx_lex.specs.Items.{is_plain, first_item, escaped_item, hex_item};
 
-use crate::scan::Found;
-use crate::token::Token;
 use fx_base::NoMemory;
 use fx_expr::Text;
 use std::alloc::Global;
@@ -97,27 +95,27 @@ fn first_item(bytes: &[u8]) -> Option<(u8, usize)>
     None
 }
 
-/// The string whose quote stands at the front.
-pub(crate) fn string_at(alloc: Global, bytes: &[u8]) -> Result<Found, NoMemory>
+/// The string whose quote stands at the front, and how many bytes it has; None where it has no end or a wrong item.
+pub(crate) fn string_at(alloc: Global, bytes: &[u8]) -> Result<Option<(Text, usize)>, NoMemory>
     requires some { 0 < length bytes.now }
     requires quote { slice_index bytes.now 0 ≡ 34 }
     requires short { length bytes.now ≤ source_limit }
-    ensures { IfOk result (IsFoundAt bytes.now) }
+    ensures { IfOk result (IsStringAt bytes.now) }
 {
     let plain = plain_len(&bytes[1..]);
     let mut value = Vec::from_slice(alloc, &bytes[1..1 + plain])?;
     let mut at = 1 + plain;
     while at < bytes.len() {
         if bytes[at] == b'"' {
-            return Ok(Found::Token(Token::Str(Text::from_vec(value)), at + 1));
+            return Ok(Some((Text::from_vec(value), at + 1)));
         }
         match first_item(&bytes[at..]) {
             Some((byte, len)) => {
                 value.push(byte)?;
                 at += len;
             }
-            None => return Ok(Found::Nothing),
+            None => return Ok(None),
         }
     }
-    Ok(Found::Nothing)
+    Ok(None)
 }

@@ -1,11 +1,14 @@
-use Rattle.std.proofs.Common.{◌≡◌, ◌+◌, ◌-◌, [], ◌∷◌, ◌++◌, length, take, drop, sym, ap, ◌∙◌, subst, inl, arith, length-drop}
+use Rattle.std.proofs.Common.{rules, ◌≡◌, ◌+◌, ◌-◌, [], ◌∷◌, ◌++◌, length, take, drop, sym, ap, ◌∙◌, subst, inl, arith, length-drop}
+use Rattle.std.proofs.lemmas.Int.{to_z-of_z}
 use Rattle.std.proofs.lemmas.List.{take_rest}
 use Rattle.std.specs.Prelude.{slice_range}
+use mir.Syntax.{w64}
+use mir.Val.{SFits}
 use Rattle.fx_expr.specs.Bytes.{IsWordAt}
 use Rattle.fx_lex.specs.declared.token.Token.TheVariants as token
 use Rattle.fx_lex.specs.declared.token.LexFault.TheVariants.{BadToken}
 use Rattle.fx_lex.specs.Reading.{AreTokensOf, IsBadAt}
-use Rattle.fx_lex.specs.Found.{IsFoundAt}
+use Rattle.fx_lex.specs.Found.{IsFoundAt, IsStringAt}
 use Rattle.fx_lex.proofs.Steps.{steps_gap, steps_on, reads_end, reads_bad}
 use Rattle.fx_lex.proofs.Stands.{word_place}
 use Rattle.fx_lex.proofs.Unique.{tokens_unique, place_unique, tokens_exclude}
@@ -15,7 +18,7 @@ pub loop-at-preserved-in-Gap : goal.loop-at-preserved-in-Gap
 loop-at-preserved-in-Gap c =
     let text = c.args.text.now in
     let at = c.loop-at.at in
-    let found = subst (λ l. IsFoundAt l c.in_ok-len.field-0) (take_rest text at) c.in_ok-len.ensures in
+    let found = subst (λ l. IsFoundAt l c.found_at.result) (take_rest text at) c.found_at.ensures in
     let here = subst (λ f. IsFoundAt (drop at text) f) c.in-Gap.is found in
     record {
       reads = steps_gap text at c.in-Gap.len c.loop-at.items.items c.loop-at.invariant.reads here.1 here.2;
@@ -28,7 +31,7 @@ pub cut-requires : goal.cut-requires
 cut-requires c =
     let text = c.args.text.now in
     let at = c.loop-at.at in
-    let found = subst (λ l. IsFoundAt l c.in_ok-len.field-0) (take_rest text at) c.in_ok-len.ensures in
+    let found = subst (λ l. IsFoundAt l c.found_at.result) (take_rest text at) c.found_at.ensures in
     let here = subst (λ f. IsFoundAt (drop at text) f) c.in-Word.is found in
     subst (λ l. IsWordAt l at (at + c.in-Word.len)) (sym c.in_ok-shared.ensures.ok) (word_place text at c.in-Word.len c.loop-at.invariant.within here)
 
@@ -37,7 +40,7 @@ loop-at-preserved-in-Word c =
     let text = c.args.text.now in
     let at = c.loop-at.at in
     let len = c.in-Word.len in
-    let found = subst (λ l. IsFoundAt l c.in_ok-len.field-0) (take_rest text at) c.in_ok-len.ensures in
+    let found = subst (λ l. IsFoundAt l c.found_at.result) (take_rest text at) c.found_at.ensures in
     let here = subst (λ f. IsFoundAt (drop at text) f) c.in-Word.is found in
     let size : at + len - at ≡ len = omega arith in
     let cut : c.in_ok-word-in-Word.word ≡ take len (drop at text) = c.in_ok-word-in-Word.ensures ∙ ap (λ l. slice_range l at (at + len)) c.in_ok-shared.ensures.ok ∙ ap (λ m. take m (drop at text)) size in
@@ -49,25 +52,38 @@ pub loop-at-preserved-in-Mark : goal.loop-at-preserved-in-Mark
 loop-at-preserved-in-Mark c =
     let text = c.args.text.now in
     let at = c.loop-at.at in
-    let found = subst (λ l. IsFoundAt l c.in_ok-len.field-0) (take_rest text at) c.in_ok-len.ensures in
+    let found = subst (λ l. IsFoundAt l c.found_at.result) (take_rest text at) c.found_at.ensures in
     let here = subst (λ f. IsFoundAt (drop at text) f) c.in-Mark.is found in
     let next = steps_on text at c.in-Mark.len c.loop-at.items.items (token.Mark c.in-Mark.mark) c.loop-at.invariant.reads c.loop-at.invariant.within c.loop-at.invariant.few here c.push-in-Mark.new.items.items c.in_ok-push-in-Mark.ensures in
+    record { reads = next.0; within = next.1; few = next.2 }
+
+pub loop-at-preserved-in-Number : goal.loop-at-preserved-in-Number
+loop-at-preserved-in-Number c =
+    let text = c.args.text.now in
+    let at = c.loop-at.at in
+    let found = subst (λ l. IsFoundAt l c.found_at.result) (take_rest text at) c.found_at.ensures in
+    let here = subst (λ f. IsFoundAt (drop at text) f) c.in-Number.is found in
+    let len = c.in-Number.len in
+    let number = c.in-Number.number in
+    let fits : SFits w64 number = search rules in
+    let pushed = c.in_ok-push-in-Number.ensures ∙ ap (λ n. c.loop-at.items.items ++ record { token = token.Number n; start = at; stop = at + len } ∷ []) (to_z-of_z w64 number fits) in
+    let next = steps_on text at len c.loop-at.items.items (token.Number number) c.loop-at.invariant.reads c.loop-at.invariant.within c.loop-at.invariant.few here c.push-in-Number.new.items.items pushed in
     record { reads = next.0; within = next.1; few = next.2 }
 
 pub loop-at-preserved : goal.loop-at-preserved
 loop-at-preserved c =
     let text = c.args.text.now in
     let at = c.loop-at.at in
-    let found = subst (λ l. IsFoundAt l c.in_ok-len.field-0) (take_rest text at) c.in_ok-len.ensures in
-    let here = subst (λ f. IsFoundAt (drop at text) f) c.in-Token.is found in
-    let next = steps_on text at c.in-Token.len c.loop-at.items.items c.in-Token.token c.loop-at.invariant.reads c.loop-at.invariant.within c.loop-at.invariant.few here c.push-in-Token.new.items.items c.in_ok-push-in-Token.ensures in
+    let read = subst (λ l. IsStringAt l c.in_ok-value-in-Quote.field-0) (take_rest text at) c.in_ok-value-in-Quote.ensures in
+    let here = subst (λ s. IsStringAt (drop at text) s) c.in-Some.is read in
+    let next = steps_on text at c.in-Some.len c.loop-at.items.items (token.Str c.in-Some.value) c.loop-at.invariant.reads c.loop-at.invariant.within c.loop-at.invariant.few here c.push-in-Some.new.items.items c.in_ok-push-in-Some.ensures in
     record { reads = next.0; within = next.1; few = next.2 }
 
 bad : (c : goal.After-drop-shared-in-Nothing) → IsBadAt c.args.text.now c.loop-at.at
 bad c =
     let text = c.args.text.now in
     let at = c.loop-at.at in
-    let found = subst (λ l. IsFoundAt l c.in_ok-len.field-0) (take_rest text at) c.in_ok-len.ensures in
+    let found = subst (λ l. IsFoundAt l c.found_at.result) (take_rest text at) c.found_at.ensures in
     reads_bad text at c.loop-at.items.items c.loop-at.invariant.reads c.loop-at-test.true (subst (λ f. IsFoundAt (drop at text) f) c.in-Nothing.is found)
 
 pub returns-in-Nothing-clause-given : goal.returns-in-Nothing-clause-given
@@ -78,6 +94,23 @@ returns-in-Nothing-clause-told c = λ place b. inl (ap BadToken (place_unique c.
 
 pub returns-in-Nothing-clause-fault : goal.returns-in-Nothing-clause-fault
 returns-in-Nothing-clause-fault c = bad c
+
+-- a quote that begins no string
+unquoted : (c : goal.After-drop-shared-in-None) → IsBadAt c.args.text.now c.loop-at.at
+unquoted c =
+    let text = c.args.text.now in
+    let at = c.loop-at.at in
+    let read = subst (λ l. IsStringAt l c.in_ok-value-in-Quote.field-0) (take_rest text at) c.in_ok-value-in-Quote.ensures in
+    reads_bad text at c.loop-at.items.items c.loop-at.invariant.reads c.loop-at-test.true (subst (λ s. IsStringAt (drop at text) s) c.in-None.is read)
+
+pub returns-in-None-clause-given : goal.returns-in-None-clause-given
+returns-in-None-clause-given c = λ spanned r. (tt, absurd (tokens_exclude c.args.text.now spanned c.loop-at.at r (unquoted c)))
+
+pub returns-in-None-clause-told : goal.returns-in-None-clause-told
+returns-in-None-clause-told c = λ place b. inl (ap BadToken (place_unique c.args.text.now c.loop-at.at place (unquoted c) b))
+
+pub returns-in-None-clause-fault : goal.returns-in-None-clause-fault
+returns-in-None-clause-fault c = unquoted c
 
 pub returns-clause-tokens : goal.returns-clause-tokens
 returns-clause-tokens c =
