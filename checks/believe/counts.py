@@ -19,8 +19,8 @@ _SHARED = (
 _RUN = (
     "fx_command.Table.CommandRow",
     "fx_run_commands.Runs.Rows.run_command",
-    "fx_run_commands.Runs.Rows.LetsRun",
-    "fx_run_commands.Runs.Rows.IsProperRun",
+    "fx_inputs.Reads.LetsRun",
+    "fx_inputs.Reads.IsProperRun",
 )
 
 
@@ -41,8 +41,9 @@ COMMANDS = (
         (
             "fx_command.Table.CommandRow",
             "fx_views_command.Rows.views_command",
-            "fx_views_command.Rows.LetsViewsRun",
-            "fx_views_command.Rows.IsProperViews",
+            "fx_inputs.Reads.LetsRun",
+            "fx_inputs.Views.HasViewsInputs",
+            "fx_command.Out.IsProperOut",
         ),
     ),
     Command(
@@ -50,8 +51,8 @@ COMMANDS = (
         (
             "fx_run_commands.Journals.Rows.JournalRow",
             "fx_run_commands.Journals.Rows.KeepsJournal",
-            "fx_run_commands.Runs.Rows.LetsRun",
-            "fx_run_commands.Journals.Rows.IsProperJournal",
+            "fx_inputs.Reads.LetsRun",
+            "fx_inputs.Reads.IsProperRun",
             "fx_durable::disk::Disk",
         ),
     ),
@@ -59,8 +60,9 @@ COMMANDS = (
         "recover",
         (
             "fx_commands.Recoveries.Rows.RecoverRow",
-            "fx_commands.Recoveries.Rows.LetsRecover",
-            "fx_commands.Recoveries.Rows.IsProperRecover",
+            "fx_inputs.Reads.LetsRun",
+            "fx_inputs.Reads.IsProperRun",
+            "fx_commands.Recoveries.Rows.HasJournal",
             "fx_durable::disk::Disk",
         ),
     ),
@@ -69,8 +71,8 @@ COMMANDS = (
         (
             "fx_command.Query.QueryRow",
             "fx_commands.Audits.Rows.audit_query",
-            "fx_commands.Audits.Rows.LetsAudit",
-            "fx_commands.Audits.Rows.IsProperAudit",
+            "fx_inputs.Reads.LetsInputs",
+            "fx_inputs.Inputs.HasInputs",
         ),
     ),
     Command(
@@ -78,8 +80,8 @@ COMMANDS = (
         (
             "fx_command.Query.QueryRow",
             "fx_commands.Shows.Rows.show_query",
-            "fx_commands.Shows.Rows.LetsShow",
-            "fx_commands.Shows.Showing.IsProperShow",
+            "fx_inputs.Reads.LetsInputs",
+            "fx_inputs.Inputs.HasInputs",
         ),
     ),
     Command(

@@ -298,5 +298,8 @@ def _ghost_and_plain(item: Item) -> tuple[str, str]:
         else:
             plain.append(line)
     if item.kind == "model":
-        return "\n".join(line for line in ghost if re.match(r"^\s*ghost Value", line)), ""
+        values = (re.match(r"^\s*ghost Value\b(.*)", line) for line in ghost)
+        return "\n".join(value.group(1) for value in values if value), ""
+    if item.kind == "enum":
+        plain = [re.sub(r"^\s+[A-Z]\w*", "", line) for line in plain]
     return "\n".join(ghost), "\n".join(plain)

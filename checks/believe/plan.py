@@ -11,7 +11,7 @@ from typing import NamedTuple
 
 WATCHED = "fx_watch.Outcome.IsWatchedAs"
 TRACED = "fx_run_commands.Runs.Outcome.IsTracedAs"
-DONE = "fx_command.Table.IsDone"
+DONE = "fx_command.Table.IsMade"
 HEADLINE = "fx_run_commands.Runs.Rows.run_making"
 TOP = ("fx_top", "top")
 
@@ -211,7 +211,7 @@ SECTIONS = (
         ("fx_command.Described.Describes", "fx_command.Scripted.Scripts"),
         (
             "fx_spec.Written.meant",
-            "fx_spec.Written.names_in",
+            "fx_spec.Written.calls_in",
         ),
     ),
     Section(
@@ -299,8 +299,8 @@ SECTIONS = (
         (
             "fx_command.Table.CommandRow",
             "fx_run_commands.Runs.Rows.run_command",
-            "fx_run_commands.Runs.Rows.LetsRun",
-            "fx_run_commands.Runs.Rows.IsProperRun",
+            "fx_inputs.Reads.LetsRun",
+            "fx_inputs.Reads.IsProperRun",
         ),
         ("fx_command.Table.CommandRow", "fx_run_commands.Runs.Rows.run_command"),
     ),
@@ -310,8 +310,8 @@ SECTIONS = (
         (
             "fx_command.Query.QueryRow",
             "fx_commands.Shows.Rows.show_query",
-            "fx_commands.Shows.Rows.LetsShow",
-            "fx_commands.Shows.Showing.IsProperShow",
+            "fx_inputs.Reads.LetsInputs",
+            "fx_inputs.Inputs.HasInputs",
         ),
         ("fx_command.Query.QueryRow",),
     ),
@@ -320,8 +320,9 @@ SECTIONS = (
         "A view is a transaction, run whole at one state of the order; it changes nothing.",
         (
             "fx_views_command.Rows.views_command",
-            "fx_views_command.Rows.LetsViewsRun",
-            "fx_views_command.Rows.IsProperViews",
+            "fx_inputs.Reads.LetsRun",
+            "fx_inputs.Views.HasViewsInputs",
+            "fx_command.Out.IsProperOut",
         ),
         ("fx_views.Views.IsView",),
     ),
@@ -331,8 +332,8 @@ SECTIONS = (
         " order can have had; or it is the first fault.",
         (
             "fx_commands.Audits.Rows.audit_query",
-            "fx_commands.Audits.Rows.LetsAudit",
-            "fx_commands.Audits.Rows.IsProperAudit",
+            "fx_inputs.Reads.LetsInputs",
+            "fx_inputs.Inputs.HasInputs",
         ),
         ("fx_audit.Audits.IsTrueReport",),
     ),
@@ -348,7 +349,7 @@ SECTIONS = (
         (
             "fx_run_commands.Journals.Rows.JournalRow",
             "fx_run_commands.Journals.Rows.KeepsJournal",
-            "fx_run_commands.Journals.Rows.IsProperJournal",
+            "fx_inputs.Reads.IsProperRun",
         ),
         ("fx_durable.Journal.reading", "fx_journaling.Kept.LeavesEither"),
     ),
@@ -357,8 +358,9 @@ SECTIONS = (
         "OUT holds the folder after the commits that a journal keeps.",
         (
             "fx_commands.Recoveries.Rows.RecoverRow",
-            "fx_commands.Recoveries.Rows.LetsRecover",
-            "fx_commands.Recoveries.Rows.IsProperRecover",
+            "fx_inputs.Reads.LetsRun",
+            "fx_inputs.Reads.IsProperRun",
+            "fx_commands.Recoveries.Rows.HasJournal",
         ),
     ),
     Section(

@@ -227,6 +227,19 @@ class Walking(Room):
         self.assertIn("fx_low.Names.IsName", found)
         self.assertEqual(world.items["fx_low::word::Word"].lines, 1)
 
+    def test_variant_and_value_of_a_model_are_no_types(self) -> None:
+        self.write(
+            "crates/fx_low/src/kind.rt",
+            "pub struct Value { at: u8 }\n\npub struct Text { at: u8 }\n\n"
+            "pub enum Kind {\n    Text,\n    Other(u8),\n}\n\n"
+            "pub struct List { kinds: Vec<Kind> }\n\n"
+            "impl Model for List {\n    ghost Value = { Kind };\n}\n",
+        )
+        found = closure(World(self.repo), ["fx_low::kind::List"])
+        self.assertIn("fx_low::kind::Kind", found)
+        self.assertNotIn("fx_low::kind::Text", found)
+        self.assertNotIn("fx_low::kind::Value", found)
+
     def test_law_is_a_function_that_does_nothing(self) -> None:
         self.write("crates/fx_laws/specs/Laws.antt", LAWS)
         self.write("crates/fx_laws/src/lib.rt", LAW)

@@ -19,12 +19,8 @@ pub record IsReadAs (base : BaseTree) (bytes : List ℕ) (v : Verdict) : Type 0 
   pub said : IsVerdict base entries retries v
 
 abbrev pub IsVerdictOn : BaseTree → List ℕ → Verdict → Type 0
-IsVerdictOn base bytes verdict.Yes = IsReadAs base bytes verdict.Yes
 IsVerdictOn base bytes (verdict.BadLine n) = IsFirstWrongLine bytes n
-IsVerdictOn base bytes (verdict.Order i) = IsReadAs base bytes (verdict.Order i)
-IsVerdictOn base bytes (verdict.Answer i) = IsReadAs base bytes (verdict.Answer i)
-IsVerdictOn base bytes (verdict.Missing shell txn) = IsReadAs base bytes (verdict.Missing shell txn)
-IsVerdictOn base bytes (verdict.Retry m) = IsReadAs base bytes (verdict.Retry m)
+IsVerdictOn base bytes v = IsReadAs base bytes v
 
 -- The bytes are the report of a complete order of the base, with retries that this order can have had: each entry tells the
 -- outputs and the end of its transaction, run whole on the filestore after those before it.

@@ -8,7 +8,7 @@ use Rattle.fx_spec.specs.Written.{DefTree, TextTree, definition}
 use Rattle.fx_spec.specs.WellShaped.{Scope, AreFree, IsWritten, IsDef, AreDefs, written_shape}
 use Rattle.fx_check.specs.Faults.{◌>>=◌}
 use Rattle.fx_check.specs.Fitting.{IsFitting}
-use Rattle.fx_check.specs.Checked.{with_name, checked, with_params, unless_defined, checked_def, checked_defs, checked_text}
+use Rattle.fx_check.specs.Checked.{with_name, checked, with_params, unless_bound, checked_def, checked_defs, checked_text}
 use Rattle.fx_check.proofs.Checking.{both, given, Named, name_is_free, free_is_named, is_description, is_checked}
 
 abbrev pub Params : Type 0
@@ -33,13 +33,13 @@ free_params g (p ∷ ps) h =
 
 -- ---- definitions
 
-pub not_defined : (f : List ℕ) (o : Option DefTree) (d given : DefTree) → unless_defined f o d ≡ Ok given → o ≡ None
+pub not_defined : (f : List ℕ) (o : Option DefTree) (d given : DefTree) → unless_bound f o d ≡ Ok given → o ≡ None
 not_defined f None d given h = refl
 not_defined f (Some found) d given h = absurd (cc)
 
 pub def_is : (defs before : List DefTree) (d : DefTree) (s : ShapeTree) → checked_def defs before d ≡ Ok s → IsDef before defs d × (s ≡ written_shape d.body)
 def_is defs before d s h =
-    let x = both (unless_defined d.name (definition d.name before) d) (λ _. with_params [] d.params >>= λ scope. checked defs scope d.body) s h in
+    let x = both (unless_bound d.name (definition d.name before) d) (λ _. with_params [] d.params >>= λ scope. checked defs scope d.body) s h in
     let y = both (with_params [] d.params) (λ scope. checked defs scope d.body) s x.then in
     let params : AreFree [] d.params × (y.first ≡ d.params) = params_are_free [] d.params y.first y.is in
     let body : IsWritten defs y.first d.body × (s ≡ written_shape d.body) = is_description defs y.first d.body s y.then in (
@@ -53,8 +53,8 @@ def_is defs before d s h =
 
 pub is_def : (defs before : List DefTree) (d : DefTree) → IsDef before defs d → checked_def defs before d ≡ Ok (written_shape d.body)
 is_def defs before d h =
-    given (unless_defined d.name (definition d.name before) d) (λ _. with_params [] d.params >>= λ scope. checked defs scope d.body) d
-    (ap (λ o. unless_defined d.name o d) h.new)
+    given (unless_bound d.name (definition d.name before) d) (λ _. with_params [] d.params >>= λ scope. checked defs scope d.body) d
+    (ap (λ o. unless_bound d.name o d) h.new)
     ∙ given (with_params [] d.params) (λ scope. checked defs scope d.body) d.params (free_params [] d.params h.params)
     ∙ is_checked defs d.params d.body h.body
 

@@ -12,9 +12,10 @@ use Rattle.fx_spec.specs.WellShaped.{Scope}
 use Rattle.fx_check.specs.Faults.{Fault, OrFault, ◌>>=◌}
 use Rattle.fx_check.specs.Shaped.{named, needed, shaped}
 
-abbrev pub unless_bound : {X : Type 0} → List ℕ → Option ShapeTree → X → OrFault X
+-- the name stands for nothing yet
+abbrev pub unless_bound : {A X : Type 0} → List ℕ → Option A → X → OrFault X
 unless_bound word None x = Ok x
-unless_bound word (Some shape) x = Err (Fault.repeated word)
+unless_bound word (Some found) x = Err (Fault.repeated word)
 
 -- the scope with one more name, which is not bound around it
 abbrev pub with_name : Scope → List ℕ → ShapeTree → OrFault Scope
@@ -53,14 +54,10 @@ abbrev pub with_params : Scope → List (List ℕ × ShapeTree) → OrFault Scop
 with_params scope [] = Ok scope
 with_params scope (p ∷ ps) = with_name scope p.0 p.1 >>= λ inner. with_params inner ps
 
-abbrev pub unless_defined : {X : Type 0} → List ℕ → Option DefTree → X → OrFault X
-unless_defined f None x = Ok x
-unless_defined f (Some d) x = Err (Fault.repeated f)
-
 -- a definition behind those before it: its name comes first, then its parameters, then its body, in which these alone are bound
 abbrev pub checked_def : List DefTree → List DefTree → DefTree → OrFault ShapeTree
 checked_def defs before d =
-    unless_defined d.name (definition d.name before) d >>= λ _. with_params [] d.params >>= λ scope. checked defs scope d.body
+    unless_bound d.name (definition d.name before) d >>= λ _. with_params [] d.params >>= λ scope. checked defs scope d.body
 
 -- of a text's definitions those from one on, behind those before it
 abbrev pub checked_defs : List DefTree → List DefTree → List DefTree → OrFault (List DefTree)

@@ -1,6 +1,7 @@
 -- The shape of an expression, or its first fault: parts are checked in the order of evaluation, the own faults of a part
 -- before its shape, and that before the next part.
-use Rattle.std.specs.Prelude.{ℕ, Bool, true, false, cond, List, Option, Some, None, Ok, Err}
+use Rattle.std.specs.Prelude.{ℕ, Bool, true, false, cond, List, [], ◌∷◌, Option, Some, None, Ok, Err}
+use Rattle.std.specs.List.{list_any}
 use Rattle.fx_expr.specs.declared.expr.BinOp.{BinOp}
 use Rattle.fx_expr.specs.declared.expr.UnOp.{UnOp}
 use Rattle.fx_expr.specs.Bindings.{bound}
@@ -16,21 +17,13 @@ needed expected found = cond (same_shape expected found) (Ok found) (Err (Fault.
 
 -- the shapes that `==` compares, that `<` compares, and that have a size
 abbrev pub is_comparable : ShapeTree → Bool
-is_comparable ShapeTree.str = true
-is_comparable ShapeTree.int = true
-is_comparable ShapeTree.bool = true
-is_comparable ShapeTree.names = true
-is_comparable _ = false
+is_comparable shape = list_any (same_shape shape) (ShapeTree.str ∷ ShapeTree.int ∷ ShapeTree.bool ∷ ShapeTree.names ∷ [])
 
 abbrev pub is_ordered : ShapeTree → Bool
-is_ordered ShapeTree.str = true
-is_ordered ShapeTree.int = true
-is_ordered _ = false
+is_ordered shape = list_any (same_shape shape) (ShapeTree.str ∷ ShapeTree.int ∷ [])
 
 abbrev pub is_sized : ShapeTree → Bool
-is_sized ShapeTree.str = true
-is_sized ShapeTree.names = true
-is_sized _ = false
+is_sized shape = list_any (same_shape shape) (ShapeTree.str ∷ ShapeTree.names ∷ [])
 
 -- the shape that was found, where it is one of several that are allowed; of these Str is told as the expected one
 abbrev pub allowed : Bool → ShapeTree → OrFault ShapeTree
@@ -40,19 +33,7 @@ allowed fits found = cond fits (Ok found) (Err (Fault.differs ShapeTree.str foun
 abbrev pub followed_by : ShapeTree → OrFault ShapeTree → OrFault ShapeTree
 followed_by shape part = part >>= λ _. Ok shape
 
--- what the first part of an operator may be
-abbrev pub first_part : BinOp → ShapeTree → OrFault ShapeTree
-first_part BinOp.Join found = needed ShapeTree.str found
-first_part BinOp.Plus found = needed ShapeTree.int found
-first_part BinOp.Minus found = needed ShapeTree.int found
-first_part BinOp.Equal found = allowed (is_comparable found) found
-first_part BinOp.Less found = allowed (is_ordered found) found
-first_part BinOp.And found = needed ShapeTree.bool found
-first_part BinOp.Or found = needed ShapeTree.bool found
-first_part BinOp.Member found = needed ShapeTree.str found
-first_part _ found = needed ShapeTree.names found
-
--- what its second part has to be, by the shape of the first
+-- what an operator's second part has to be, by the shape of the first
 abbrev pub second_needed : BinOp → ShapeTree → ShapeTree
 second_needed BinOp.Join first = ShapeTree.str
 second_needed BinOp.Plus first = ShapeTree.int
@@ -63,6 +44,13 @@ second_needed BinOp.And first = ShapeTree.bool
 second_needed BinOp.Or first = ShapeTree.bool
 second_needed _ first = ShapeTree.names
 
+-- what its first part may be: of `==` and `<` one of several, of `in` a text, and else what the second has to be
+abbrev pub first_part : BinOp → ShapeTree → OrFault ShapeTree
+first_part BinOp.Equal found = allowed (is_comparable found) found
+first_part BinOp.Less found = allowed (is_ordered found) found
+first_part BinOp.Member found = needed ShapeTree.str found
+first_part op found = needed (second_needed op found) found
+
 abbrev pub result_shape : BinOp → ShapeTree
 result_shape BinOp.Join = ShapeTree.str
 result_shape BinOp.Plus = ShapeTree.int
@@ -70,6 +58,23 @@ result_shape BinOp.Minus = ShapeTree.int
 result_shape BinOp.Union = ShapeTree.names
 result_shape BinOp.Without = ShapeTree.names
 result_shape _ = ShapeTree.bool
+
+-- the shape that an operator gives for a part of this shape: of a pair, of a table and of an optional value too
+abbrev pub one_shape : UnOp → ShapeTree → OrFault ShapeTree
+one_shape UnOp.Not found = needed ShapeTree.bool found >>= λ _. Ok ShapeTree.bool
+one_shape UnOp.One found = needed ShapeTree.str found >>= λ _. Ok ShapeTree.names
+one_shape UnOp.Lines found = needed ShapeTree.str found >>= λ _. Ok ShapeTree.names
+one_shape UnOp.Size found = allowed (is_sized found) found >>= λ _. Ok ShapeTree.int
+one_shape UnOp.Int found = needed ShapeTree.str found >>= λ _. Ok ShapeTree.int
+one_shape UnOp.Text found = needed ShapeTree.int found >>= λ _. Ok ShapeTree.str
+one_shape UnOp.First (ShapeTree.pair s t) = Ok s
+one_shape UnOp.First found = Err (Fault.differs (ShapeTree.pair ShapeTree.str ShapeTree.str) found)
+one_shape UnOp.Second (ShapeTree.pair s t) = Ok t
+one_shape UnOp.Second found = Err (Fault.differs (ShapeTree.pair ShapeTree.str ShapeTree.str) found)
+one_shape UnOp.Keys (ShapeTree.table s) = Ok ShapeTree.names
+one_shape UnOp.Keys found = Err (Fault.differs (ShapeTree.table ShapeTree.str) found)
+one_shape UnOp.Present (ShapeTree.opt s) = Ok ShapeTree.bool
+one_shape UnOp.Present found = Err (Fault.differs (ShapeTree.opt ShapeTree.str) found)
 
 abbrev pub is_pair : ShapeTree → Bool
 is_pair (ShapeTree.pair s t) = true
@@ -83,35 +88,18 @@ abbrev pub is_option : ShapeTree → Bool
 is_option (ShapeTree.opt s) = true
 is_option _ = false
 
--- the shapes of a pair's parts, of a table's texts, and of whether an optional value is there
+-- the operators on pairs, tables and optional values
 abbrev pub first_of : ShapeTree → OrFault ShapeTree
-first_of (ShapeTree.pair s t) = Ok s
-first_of found = Err (Fault.differs (ShapeTree.pair ShapeTree.str ShapeTree.str) found)
+first_of found = one_shape UnOp.First found
 
 abbrev pub second_of : ShapeTree → OrFault ShapeTree
-second_of (ShapeTree.pair s t) = Ok t
-second_of found = Err (Fault.differs (ShapeTree.pair ShapeTree.str ShapeTree.str) found)
+second_of found = one_shape UnOp.Second found
 
 abbrev pub keys_of : ShapeTree → OrFault ShapeTree
-keys_of (ShapeTree.table s) = Ok ShapeTree.names
-keys_of found = Err (Fault.differs (ShapeTree.table ShapeTree.str) found)
+keys_of found = one_shape UnOp.Keys found
 
 abbrev pub present_of : ShapeTree → OrFault ShapeTree
-present_of (ShapeTree.opt s) = Ok ShapeTree.bool
-present_of found = Err (Fault.differs (ShapeTree.opt ShapeTree.str) found)
-
--- the shape that an operator gives for a part of this shape
-abbrev pub one_shape : UnOp → ShapeTree → OrFault ShapeTree
-one_shape UnOp.Not found = needed ShapeTree.bool found >>= λ _. Ok ShapeTree.bool
-one_shape UnOp.One found = needed ShapeTree.str found >>= λ _. Ok ShapeTree.names
-one_shape UnOp.Lines found = needed ShapeTree.str found >>= λ _. Ok ShapeTree.names
-one_shape UnOp.Size found = allowed (is_sized found) found >>= λ _. Ok ShapeTree.int
-one_shape UnOp.Int found = needed ShapeTree.str found >>= λ _. Ok ShapeTree.int
-one_shape UnOp.Text found = needed ShapeTree.int found >>= λ _. Ok ShapeTree.str
-one_shape UnOp.First found = first_of found
-one_shape UnOp.Second found = second_of found
-one_shape UnOp.Keys found = keys_of found
-one_shape UnOp.Present found = present_of found
+present_of found = one_shape UnOp.Present found
 
 -- the shape of two parts' operator, the first of which may stand there
 abbrev pub two_shape : BinOp → ShapeTree → ShapeTree → OrFault ShapeTree

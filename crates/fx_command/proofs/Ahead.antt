@@ -14,7 +14,7 @@ Txns = List (List CommandTree)
 
 pub found_alone : (text : List ℕ) (txns : Txns) (alone : Alone) → texts.IsScript text txns → ((others : Txns) → texts.IsScript text others → txns ≡ others) → IsScriptAnswer 0 txns (Ok alone.script) → alone.count ≡ length txns → IsScript alone.script → IsAlone text alone
 found_alone text txns alone read only found count shaped = record {
-  read = subst (λ x. Scripts text 0 x) (sym found.0) (record { read = read; shapes = found.1; few = found.2 });
+  read = subst (λ x. Scripts text 0 x) (sym found.0) (record { read = read; fits = found.1; few = found.2 });
   only = λ others is. sym (only others is.read) ∙ sym found.0;
   shaped = shaped;
   count = count ∙ ap (λ x. length x) (sym found.0);

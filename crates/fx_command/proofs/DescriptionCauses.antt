@@ -1,18 +1,18 @@
 -- The cause for which a text is refused, from the faults of its parser and of its check.
-use Rattle.std.proofs.Common.{◌≡◌, ◌∙◌, ℕ, List, Ok, Err, sym, ap}
+use Rattle.std.proofs.Common.{◌≡◌, ◌∙◌, ℕ, true, false, List, Err, sym, ap}
+use Rattle.std.specs.Prelude.{is_ok, IsOk}
 use Rattle.fx_check.specs.declared.fault.CheckFault.{CheckFault}
 use Rattle.fx_check.specs.declared.fault.CheckFault.TheVariants as check
 use Rattle.fx_check.specs.Checked.{checked_text}
 use Rattle.fx_check.specs.Faults.{Fault}
 use Rattle.fx_check.specs.Gives.{IsFault}
 use Rattle.fx_check.proofs.Texts.{is_text}
-use Rattle.fx_expr.specs.ShapeTree.{ShapeTree}
 use Rattle.fx_expr.specs.Views.{shape_tree}
 use Rattle.fx_grammar.specs.Refused.{IsRefusedDescription}
 use Rattle.fx_grammar.specs.Texts as texts
 use Rattle.fx_parse.specs.declared.fault.ParseFault.{ParseFault}
 use Rattle.fx_parse.specs.declared.fault.ParseFault.TheVariants as parse
-use Rattle.fx_spec.specs.WellShaped.{written_shape}
+use Rattle.fx_spec.specs.WellShaped.{IsChecked}
 use Rattle.fx_spec.specs.Written.{TextTree}
 use Rattle.fx_command.specs.declared.status.TextFault.{TextFault}
 use Rattle.fx_command.specs.declared.status.TextFault.TheVariants as fault
@@ -33,15 +33,18 @@ not_parsed text (parse.Unexpected n) only has = refused text (fault.Unexpected n
 not_parsed text (parse.TooNested n) only has = refused text (fault.TooNested n) (parse.TooNested n) (λ e. cc) only has
 not_parsed text parse.NoMemory only has = tt
 
+-- a description that is well shaped has no fault
+pub no_fault : (written : TextTree) → IsChecked written → IsOk (checked_text written)
+no_fault written is = ap is_ok (is_text written is.defs is.root)
+
 -- a description with a fault is not one without
-unshaped : (written : TextTree) (first : Fault) (s : ShapeTree) → checked_text written ≡ Err first → checked_text written ≡ Ok s → ⊥
-unshaped written first s fault fine = let both : Ok s ≡ Err first = sym fine ∙ fault in cc
+unshaped : (written : TextTree) (first : Fault) → checked_text written ≡ Err first → IsOk (checked_text written) → ⊥
+unshaped written first fault fine = let both : false ≡ true = sym (ap is_ok fault) ∙ fine in cc
 
 faulty : (text : List ℕ) (written : TextTree) (cause : TextFault) (first : Fault) → ((other : TextTree) → texts.IsDescription text other → written ≡ other)
     → checked_text written ≡ Err first → HasDescriptionCause text cause → IsRefusedFor text cause
 faulty text written cause first only found has = record {
-  none = λ other is.
-      unshaped written first (written_shape is.written.root) found (ap checked_text (only is.written is.read) ∙ is_text is.written is.shapes.defs is.shapes.root);
+  none = λ other is. unshaped is.written first (ap checked_text (sym (only is.written is.read)) ∙ found) is.fits;
   cause = has;
 }
 

@@ -2,7 +2,6 @@ pub mod Ahead
 pub mod DescriptionCauses
 pub mod Files
 pub mod Outs
-pub mod Pieces
 pub mod Queries
 pub mod Readings
 pub mod ScriptCauses

@@ -1,12 +1,11 @@
 -- The cause for which a script's text is refused, from the faults of its parser and of its check.
-use Rattle.std.proofs.Common.{◌≡◌, ◌≤◌, ◌+◌, ◌∙◌, ℕ, cond, List, [], Ok, Err, length, sym, ap}
-use Rattle.std.specs.Prelude.{All}
+use Rattle.std.proofs.Common.{◌≡◌, ◌≤◌, ◌+◌, ◌∙◌, ℕ, cond, List, Ok, Err, length, sym, ap}
 use Rattle.std.proofs.lemmas.Bool.{le-leb}
 use Rattle.fx_check.specs.declared.fault.CheckFault.{CheckFault}
 use Rattle.fx_check.specs.declared.fault.CheckFault.TheVariants as check
 use Rattle.fx_check.specs.Checked.{checked_txns, checked_script}
 use Rattle.fx_check.specs.Faults.{Fault}
-use Rattle.fx_check.specs.Gives.{IsFault, IsSmall}
+use Rattle.fx_check.specs.Gives.{IsFault}
 use Rattle.fx_check.proofs.Checking.{are_txns}
 use Rattle.fx_expr.specs.Views.{shape_tree}
 use Rattle.fx_grammar.specs.Grammars.{scripts}
@@ -14,8 +13,8 @@ use Rattle.fx_grammar.specs.Refused.{IsRefused}
 use Rattle.fx_grammar.specs.Texts as texts
 use Rattle.fx_parse.specs.declared.fault.ParseFault.{ParseFault}
 use Rattle.fx_parse.specs.declared.fault.ParseFault.TheVariants as parse
-use Rattle.fx_spec.specs.CommandTree.{CommandTree, block}
-use Rattle.fx_spec.specs.WellShaped.{IsBlock, IsScript}
+use Rattle.fx_spec.specs.CommandTree.{CommandTree}
+use Rattle.fx_spec.specs.WellShaped.{IsScript}
 use Rattle.fx_command.specs.declared.status.TextFault.{TextFault}
 use Rattle.fx_command.specs.declared.status.TextFault.TheVariants as fault
 use Rattle.fx_command.specs.Faults.{of_parse, of_check}
@@ -38,17 +37,17 @@ not_parsed text before (parse.Unexpected n) only has = refused text before (faul
 not_parsed text before (parse.TooNested n) only has = refused text before (fault.TooNested n) (parse.TooNested n) (λ e. cc) only has
 not_parsed text before parse.NoMemory only has = tt
 
--- a script whose names and shapes fit has no fault
-no_fault : (before : ℕ) (txns : Txns) → All (λ t. IsBlock [] (block t)) txns → before + length txns ≤ 100000 → checked_script before txns ≡ Ok txns
-no_fault before txns shapes few =
-    ap (λ b. cond b (checked_txns txns) (Err Fault.too_many)) (le-leb (before + length txns) 100000 few) ∙ are_txns txns shapes
+-- transactions without a fault that are not too many are a script without one
+no_fault : (before : ℕ) (txns : Txns) → checked_txns txns ≡ Ok txns → before + length txns ≤ 100000 → checked_script before txns ≡ Ok txns
+no_fault before txns fits few =
+    ap (λ b. cond b (checked_txns txns) (Err Fault.too_many)) (le-leb (before + length txns) 100000 few) ∙ fits
 
 both : (before : ℕ) (txns : Txns) (first : Fault) → checked_script before txns ≡ Err first → checked_script before txns ≡ Ok txns → ⊥
 both before txns first found fine = let no : Ok txns ≡ Err first = sym fine ∙ found in cc
 
 faulty : (text : List ℕ) (before : ℕ) (txns : Txns) (cause : TextFault) (first : Fault) → ((other : Txns) → texts.IsScript text other → txns ≡ other) → checked_script before txns ≡ Err first → HasScriptCause text before cause → IsNoScriptFor text before cause
 faulty text before txns cause first only found has = record {
-  none = λ other is. both before other first (ap (checked_script before) (sym (only other is.read)) ∙ found) (no_fault before other is.shapes is.few);
+  none = λ other is. both before other first (ap (checked_script before) (sym (only other is.read)) ∙ found) (no_fault before other is.fits is.few);
   cause = has;
 }
 
@@ -63,5 +62,6 @@ not_checked text before txns check.TooMany read only found =
     faulty text before txns fault.TooMany Fault.too_many only found (record { txns = txns; read = read; found = found })
 not_checked text before txns check.NoMemory read only found = tt
 
-pub are_shaped : (txns : Txns) → All IsSmall txns → All (λ t. IsBlock [] (block t)) txns → IsScript txns
-are_shaped txns small shapes = λ k d within. record { shapes = shapes k d within; nested = (small k d within).nested; few = (small k d within).few }
+-- transactions that are well shaped have no fault
+pub shaped_fit : (txns : Txns) → IsScript txns → checked_txns txns ≡ Ok txns
+shaped_fit txns shaped = are_txns txns (λ k d within. (shaped k d within).shapes)

@@ -1,5 +1,5 @@
 -- The rows of the table of statuses, from what the stages of a command ensure.
-use Rattle.std.proofs.Common.{◌≡◌, ◌⊎◌, inl, inr, ℕ, Bool, false, ◌++◌, take, List, Option, None, Some, IfSome, IsSomeAnd, refl, sym, subst}
+use Rattle.std.proofs.Common.{◌≡◌, ◌⊎◌, inl, inr, ℕ, false, List, Option, None, Some, IfSome, IsSomeAnd, refl, sym, subst}
 use Rattle.fx_base.specs.Causes.{Rose}
 use Rattle.fx_store.specs.Whole.{Nodes}
 use Rattle.fx_outside.specs.Host.{HostView, ReadsOnly, FaultIn, HasFailed}
@@ -7,6 +7,7 @@ use Rattle.fx_outside.specs.Path.{parts, is_fit}
 use Rattle.fx_outside.proofs.Views.{fault_in_back}
 use Rattle.fx_outside.specs.Sink.{SinkView}
 use Rattle.fx_outside.specs.Tree.{Tree}
+use Rattle.fx_folder.specs.declared.readying.Out.{Out}
 use Rattle.fx_folder.specs.Folder.{IfTold, IsReady, IsTaken, IsSaved, IsPartlySaved, Saves, SavesPart, SaveCause, LacksFolder}
 use Rattle.fx_folder.specs.declared.fault.SaveFault.{SaveFault}
 use Rattle.fx_folder.specs.declared.fault.SaveFault.TheVariants as save
@@ -16,13 +17,13 @@ use Rattle.fx_command.specs.Out.{IsProperOut, IsUnready}
 use Rattle.fx_command.specs.Reading.{ReadEnds}
 use Rattle.fx_command.specs.Saved.{Prints, PrintsPart, SaveEnd, done, unmade, unsaved, unprinted}
 use Rattle.fx_command.specs.StatusOf.{save_status}
-use Rattle.fx_command.specs.Table.{Command, IsDone, IsCutShort, MayHoldPart, CannotSave, CommandRow, CommandEndsAs, IsComing}
+use Rattle.fx_command.specs.Table.{Command, IsMade, MayHoldPart, CannotSave, CommandRow, CommandEndsAs, IsComing}
 use Rattle.fx_command.proofs.Outs.{not_taken, can_write}
 use Rattle.fx_command.proofs.Readings.{IsSteady, CannotBeRefused}
 use Rattle.fx_command.proofs.Told.{if_some_map, if_some_both, some_and, if_told_same, if_told_map, some_unit, same, grows_front, grows_all, cause_back, told_back, some_back, same_back}
 
 -- a filestore that is not saved whole
-pub not_saved_end : (out : List ℕ) (there : Bool) (nodes : Nodes) (output : List ℕ) (host host' : HostView) (sink : SinkView) (fault : SaveFault) → SavesPart out nodes host host' → SaveCause out there host host' fault → SaveEnd out there nodes output host host' sink sink (save_status fault)
+pub not_saved_end : (out : List ℕ) (there : Out) (nodes : Nodes) (output : List ℕ) (host host' : HostView) (sink : SinkView) (fault : SaveFault) → SavesPart out nodes host host' → SaveCause out there host host' fault → SaveEnd out there nodes output host host' sink sink (save_status fault)
 not_saved_end out there nodes output host host' sink save.WriteFault part cause = unsaved part cause refl
 not_saved_end out there nodes output host host' sink save.NotEmpty part cause = absurd cause
 not_saved_end out there nodes output host host' sink save.NoMemory part cause = unmade part refl
@@ -37,7 +38,7 @@ module _ {A : Type 0} (m : Command A) where
   -- not all is read
   pub not_read : (host host' : HostView) (st : Status) → ReadsOnly host host' → ReadEnds m.reads host host' st → CommandEndsAs m host host' st
   not_read host host' status.Done reads row sink = absurd row
-  not_read host host' status.Usage reads row sink = absurd row
+  not_read host host' status.Usage reads row sink = (same host host' sink reads, row)
   not_read host host' (status.TextRefused word cause) reads row sink = (same host host' sink reads, row)
   not_read host host' (status.FolderRefused cause) reads row sink = (same host host' sink reads, row)
   not_read host host' status.ReadFault reads row sink = (same host host' sink reads, row)
@@ -70,7 +71,7 @@ module _ {A : Type 0} (m : Command A) where
 
   -- ---- the last stage, for an end to which the command comes only where all is read
 
-  pub coming : (end : A) (there : Bool) (host : HostView) → IfSome host.told (m.makes.comes end) → IfSome host.told (λ t. IsReady t m.makes.out there) → IfSome host.told (λ t. IsComing m.makes t end there)
+  pub coming : (end : A) (there : Out) (host : HostView) → IfSome host.told (m.makes.comes end) → IfSome host.told (λ t. IsReady t m.makes.out there) → IfSome host.told (λ t. IsComing m.makes t end there)
   coming end there host comes ready =
       if_some_both (m.makes.comes end) (λ t. IsReady t m.makes.out there) (λ t. IsComing m.makes t end there) host.told (λ t comes free. record { comes = comes; free = free }) comes ready
 
@@ -81,20 +82,20 @@ module _ {A : Type 0} (m : Command A) where
   pub begins : (P : Tree → Tree → Type 0) (end : A) (host host' : HostView) → ((t t' : Tree) → P t t' → (t' ≡ t) ⊎ m.makes.begun end t t') → IfTold host.told host'.told P → Begins end host host'
   begins P end host host' f part = if_told_map P (λ t t'. (t' ≡ t) ⊎ m.makes.begun end t t') (λ _. Unit {0}) host.told host'.told (λ t t' _ p. f t t' p) (some_unit host.told) part
 
-  module _ (end : A) (there : Bool) (host host' : HostView) (is : IfSome host.told (λ t. IsComing m.makes t end there)) where
+  module _ (end : A) (there : Out) (host host' : HostView) (is : IfSome host.told (λ t. IsComing m.makes t end there)) where
     pub not_printed : (sink sink' : SinkView) → IfTold host.told host'.told (m.makes.stands end) → PrintsPart (m.makes.prints end) sink sink' → Rose sink.faults sink'.faults → CommandRow m host host' sink sink' status.WriteFault
     not_printed sink sink' stands front rose = inr (record {
       cause = rose;
       grows = grows_front sink sink' (m.makes.prints end) front;
-      left = if_told_map (m.makes.stands end) (λ t t'. IsCutShort m.makes t t' sink.written sink'.written) (λ t. IsComing m.makes t end there) host.told host'.told
-          (λ t t' is stands. record { end = end; there = there; comes = is.comes; free = is.free; stands = stands; written = front }) is stands;
+      left = if_told_map (m.makes.stands end) (IsMade m.makes m.makes.stands (λ output. PrintsPart output sink sink')) (λ t. IsComing m.makes t end there) host.told host'.told
+          (λ t t' is stands. record { end = end; there = there; comes = is.comes; free = is.free; left = stands; written = front }) is stands;
     })
 
     pub all_done : (sink sink' : SinkView) → IfTold host.told host'.told (m.makes.stands end) → Prints (m.makes.prints end) sink sink' → CommandRow m host host' sink sink' status.Done
     all_done sink sink' stands whole = (
       grows_all sink sink' (m.makes.prints end) whole,
-      if_told_map (m.makes.stands end) (λ t t'. IsDone m.makes t t' sink.written sink'.written) (λ t. IsComing m.makes t end there) host.told host'.told
-          (λ t t' is stands. record { end = end; there = there; comes = is.comes; free = is.free; stands = stands; written = whole }) is stands,
+      if_told_map (m.makes.stands end) (IsMade m.makes m.makes.stands (λ output. Prints output sink sink')) (λ t. IsComing m.makes t end there) host.told host'.told
+          (λ t t' is stands. record { end = end; there = there; comes = is.comes; free = is.free; left = stands; written = whole }) is stands,
     )
 
     module _ (all : (t : Tree) → m.makes.comes end t → m.all t) where
@@ -104,7 +105,7 @@ module _ {A : Type 0} (m : Command A) where
         where
           one : (t t' : Tree) → IsComing m.makes t end there → (t' ≡ t) ⊎ m.makes.begun end t t' → MayHoldPart m.makes t t'
           one t t' is (inl same) = inl same
-          one t t' is (inr part) = inr (record { end = end; there = there; comes = is.comes; free = is.free; begun = part })
+          one t t' is (inr part) = inr (record { end = end; there = there; comes = is.comes; free = is.free; left = part; written = tt })
 
       only_part : (told told' : Option Tree) → IfTold told told' (λ t t'. m.all t × MayHoldPart m.makes t t') → IfTold told told' (MayHoldPart m.makes)
       only_part None told' p = p
@@ -123,7 +124,7 @@ module _ {A : Type 0} (m : Command A) where
       not_saved save.NoMemory part cause sink = (refl, only_part host.told host'.told (begun part))
 
   -- the stage that saves a filestore and then prints, for an end at which this filestore stands
-  module _ (end : A) (there : Bool) (nodes : Nodes) (host host' : HostView) (sink sink' : SinkView) (all : (t : Tree) → m.makes.comes end t → m.all t) (stand : (t t' : Tree) → IsSaved t t' (parts m.makes.out) nodes → m.makes.stands end t t') (begin : (t t' : Tree) → IsPartlySaved t t' (parts m.makes.out) nodes → m.makes.begun end t t') (is : IfSome host.told (λ t. IsComing m.makes t end there)) where
+  module _ (end : A) (there : Out) (nodes : Nodes) (host host' : HostView) (sink sink' : SinkView) (all : (t : Tree) → m.makes.comes end t → m.all t) (stand : (t t' : Tree) → IsSaved t t' (parts m.makes.out) nodes → m.makes.stands end t t') (begin : (t t' : Tree) → IsPartlySaved t t' (parts m.makes.out) nodes → m.makes.begun end t t') (is : IfSome host.told (λ t. IsComing m.makes t end there)) where
     standing : Saves m.makes.out nodes host host' → IfTold host.told host'.told (m.makes.stands end)
     standing saved = if_told_map (λ t t'. IsSaved t t' (parts m.makes.out) nodes) (m.makes.stands end) (λ _. Unit {0}) host.told host'.told (λ t t' _ saved. stand t t' saved) (some_unit host.told) saved
 
@@ -142,11 +143,11 @@ module _ {A : Type 0} (m : Command A) where
 
   module _ (steady : IsSteady m.reads) where
     pub row_back : (a b c : HostView) (sink sink' : SinkView) (st : Status) → ReadsOnly a b → CommandRow m b c sink sink' st → CommandRow m a c sink sink' st
-    row_back a b c sink sink' status.Done reads row = (row.0, told_back (λ t t'. IsDone m.makes t t' sink.written sink'.written) a b c reads row.1)
-    row_back a b c sink sink' status.Usage reads row = row
-    row_back a b c sink sink' (status.TextRefused word cause) reads row = (same_back a b c sink sink' reads row.0, steady.refused a b word cause reads row.1)
-    row_back a b c sink sink' (status.FolderRefused cause) reads row = (same_back a b c sink sink' reads row.0, steady.unloaded a b cause reads row.1)
-    row_back a b c sink sink' status.ReadFault reads row = (same_back a b c sink sink' reads row.0, steady.failed a b c reads row.1)
+    row_back a b c sink sink' status.Done reads row = (row.0, told_back (IsMade m.makes m.makes.stands (λ output. Prints output sink sink')) a b c reads row.1)
+    row_back a b c sink sink' status.Usage reads row = (same_back a b c sink sink' reads row.0, steady a b c status.Usage reads row.1)
+    row_back a b c sink sink' (status.TextRefused word cause) reads row = (same_back a b c sink sink' reads row.0, steady a b c (status.TextRefused word cause) reads row.1)
+    row_back a b c sink sink' (status.FolderRefused cause) reads row = (same_back a b c sink sink' reads row.0, steady a b c (status.FolderRefused cause) reads row.1)
+    row_back a b c sink sink' status.ReadFault reads row = (same_back a b c sink sink' reads row.0, steady a b c status.ReadFault reads row.1)
     row_back a b c sink sink' status.NotEmpty reads row = (same_back a b c sink sink' reads row.0, some_back (λ t. m.all t × IsTaken t m.makes.out) a b reads row.1)
     row_back a b c sink sink' status.WriteFault reads (inl row) = inl (record {
       cause = cause_back (FaultIn m.makes.out) (CannotSave m) a b c reads (fault_in_back m.makes.out a b c reads.later) row.cause;
@@ -154,9 +155,9 @@ module _ {A : Type 0} (m : Command A) where
       left = told_back (λ t t'. m.all t × MayHoldPart m.makes t t') a b c reads row.left;
     })
     row_back a b c sink sink' status.WriteFault reads (inr row) =
-        inr (record { cause = row.cause; grows = row.grows; left = told_back (λ t t'. IsCutShort m.makes t t' sink.written sink'.written) a b c reads row.left })
+        inr (record { cause = row.cause; grows = row.grows; left = told_back (IsMade m.makes m.makes.stands (λ output. PrintsPart output sink sink')) a b c reads row.left })
     row_back a b c sink sink' status.NoMemory reads row = (row.0, told_back (MayHoldPart m.makes) a b c reads row.1)
-    row_back a b c sink sink' (status.BadJournal place) reads row = (same_back a b c sink sink' reads row.0, steady.bad a b place reads row.1)
+    row_back a b c sink sink' (status.BadJournal place) reads row = (same_back a b c sink sink' reads row.0, steady a b c (status.BadJournal place) reads row.1)
 
     pub ends_back : (a b c : HostView) (st : Status) → ReadsOnly a b → CommandEndsAs m b c st → CommandEndsAs m a c st
     ends_back a b c st reads ends sink = row_back a b c sink sink st reads (ends sink)
@@ -165,17 +166,17 @@ module _ {A : Type 0} (m : Command A) where
 
   pub completes : (t : Tree) (host host' : HostView) (sink sink' : SinkView) (st : Status) → host.told ≡ Some t → CannotBeRefused m.reads host host' → IsProperOut t m.makes.out → (Rose host.faults host'.faults → ⊥) → (Rose sink.faults sink'.faults → ⊥) → CommandRow m host host' sink sink' st → (st ≡ status.Done) ⊎ (st ≡ status.NoMemory)
   completes t host host' sink sink' status.Done is read proper none quiet row = inl refl
-  completes t host host' sink sink' status.Usage is read proper none quiet row = absurd row
-  completes t host host' sink sink' (status.TextRefused word cause) is read proper none quiet row = absurd (read.refused word cause row.1)
-  completes t host host' sink sink' (status.FolderRefused cause) is read proper none quiet row = absurd (read.unloaded cause row.1)
-  completes t host host' sink sink' status.ReadFault is read proper none quiet row = absurd (read.failed row.1)
+  completes t host host' sink sink' status.Usage is read proper none quiet row = absurd (read status.Usage row.1)
+  completes t host host' sink sink' (status.TextRefused word cause) is read proper none quiet row = absurd (read (status.TextRefused word cause) row.1)
+  completes t host host' sink sink' (status.FolderRefused cause) is read proper none quiet row = absurd (read (status.FolderRefused cause) row.1)
+  completes t host host' sink sink' status.ReadFault is read proper none quiet row = absurd (read status.ReadFault row.1)
   completes t host host' sink sink' status.NotEmpty is read proper none quiet row =
-      absurd (not_taken t m.makes.out proper.there proper.free (subst (λ o. IfSome o (λ t. m.all t × IsTaken t m.makes.out)) is row.1).1)
+      absurd (not_taken t m.makes.out proper (subst (λ o. IfSome o (λ t. m.all t × IsTaken t m.makes.out)) is row.1).1)
   completes t host host' sink sink' status.WriteFault is read proper none quiet (inl row) = absurd (not_unsaved row.cause)
     where
       not_unsaved : FaultIn m.makes.out host host' ⊎ IsSomeAnd host.told (CannotSave m) → ⊥
       not_unsaved (inl fault) = none fault.rose
-      not_unsaved (inr cannot) = can_write t m.makes.out proper.there proper.free proper.above (subst (λ o. IsSomeAnd o (CannotSave m)) is cannot).1
+      not_unsaved (inr cannot) = can_write t m.makes.out proper (subst (λ o. IsSomeAnd o (CannotSave m)) is cannot).1
   completes t host host' sink sink' status.WriteFault is read proper none quiet (inr row) = absurd (quiet row.cause)
   completes t host host' sink sink' status.NoMemory is read proper none quiet row = inr refl
-  completes t host host' sink sink' (status.BadJournal place) is read proper none quiet row = absurd (read.bad place row.1)
+  completes t host host' sink sink' (status.BadJournal place) is read proper none quiet row = absurd (read (status.BadJournal place) row.1)

@@ -5,16 +5,13 @@ use Rattle.fx_outside.specs.Sink.{SinkView}
 use Rattle.fx_outside.specs.Tree.{Tree}
 use Rattle.fx_outside.proofs.Views.{reads_then}
 use Rattle.fx_folder.specs.Folder.{IfTold}
+pub use Rattle.fx_folder.proofs.Told.{if_some_both}
 use Rattle.fx_command.specs.Left.{IsSame, Grows}
 
 -- words on a told tree
 pub if_some_map : {A : Type 0} (P Q : A → Type 0) (o : Option A) → ((x : A) → P x → Q x) → IfSome o P → IfSome o Q
 if_some_map P Q None f p = tt
 if_some_map P Q (Some x) f p = f x p
-
-pub if_some_both : {A : Type 0} (P Q R : A → Type 0) (o : Option A) → ((x : A) → P x → Q x → R x) → IfSome o P → IfSome o Q → IfSome o R
-if_some_both P Q R None f p q = tt
-if_some_both P Q R (Some x) f p q = f x p q
 
 pub some_and : {A : Type 0} (P Q R : A → Type 0) (o : Option A) → ((x : A) → P x → Q x → R x) → IfSome o P → IsSomeAnd o Q → IsSomeAnd o R
 some_and P Q R None f p q = q

@@ -1,22 +1,21 @@
 -- What a text describes, and why it describes nothing.
-use Rattle.std.specs.Prelude.{◌≡◌, ℕ, List, Err}
+use Rattle.std.specs.Prelude.{◌≡◌, ℕ, List, Err, IsOk}
 use Rattle.fx_check.specs.Checked.{checked_text}
 use Rattle.fx_check.specs.Faults.{Fault}
 use Rattle.fx_grammar.specs.Refused.{IsRefusedDescription}
 use Rattle.fx_grammar.specs.Texts as texts
 use Rattle.fx_spec.specs.SpecTree.{SpecTree}
-use Rattle.fx_spec.specs.WellShaped.{IsChecked}
 use Rattle.fx_spec.specs.Written.{TextTree, text_tree}
 use Rattle.fx_command.specs.declared.fault.SourceFault.{SourceFault}
 use Rattle.fx_command.specs.declared.fault.SourceFault.TheVariants as refusal
 use Rattle.fx_command.specs.declared.status.TextFault.{TextFault}
 use Rattle.fx_command.specs.Causes.{IsCause}
 
--- the text stands for a description, whose names and shapes fit and which means this
+-- the text stands for a description, which has no fault of names and shapes and means this
 pub record Describes (text : List ℕ) (spec : SpecTree) : Type 0 where
   pub written : TextTree
   pub read : texts.IsDescription text written
-  pub shapes : IsChecked written
+  pub fits : IsOk (checked_text written)
   pub means : spec ≡ text_tree written
 
 -- the text stands for a description, whose first fault of names and shapes is this one

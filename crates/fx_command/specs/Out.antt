@@ -1,26 +1,20 @@
 -- Where a command may write: what stands at OUT, and above it.
-use Rattle.std.specs.Prelude.{◌≡◌, ◌⊎◌, ℕ, Bool, true, false, List, IfSome, ⊤}
+use Rattle.std.specs.Prelude.{◌≡◌, ◌⊎◌, ℕ, true, false, List, IfSome, ⊤}
 use Rattle.fx_outside.specs.Path.{parts, is_fit, above}
 use Rattle.fx_outside.specs.Tree.{Tree, has_folder}
 use Rattle.fx_outside.specs.Host.{HostView, Guard, LetsIn, FaultIn, HasFailed}
+use Rattle.fx_folder.specs.declared.readying.Out.TheVariants.{Absent, Empty}
 use Rattle.fx_folder.specs.Folder.{IsReady, IsTaken}
 use Rattle.fx_command.specs.declared.status.Status.{Status}
 use Rattle.fx_command.specs.declared.status.Status.TheVariants as status
 
 -- OUT is unfit, or nothing stands there and no folder above
 abbrev pub CannotWrite : Tree → List ℕ → Type 0
-CannotWrite t out = (is_fit out ≡ false) ⊎ (IsReady t out false × (has_folder t (above (parts out)) ≡ false))
+CannotWrite t out = (is_fit out ≡ false) ⊎ (IsReady t out Absent × (has_folder t (above (parts out)) ≡ false))
 
--- where OUT has to be made, a folder stands above it
-abbrev pub FitsOut : Tree → List ℕ → Bool → Type 0
-FitsOut t path true = Unit {0}
-FitsOut t path false = has_folder t (above (parts path)) ≡ true
-
--- OUT is an empty folder, or can be made
-pub record IsProperOut (t : Tree) (out : List ℕ) : Type 0 where
-  pub there : Bool
-  pub free : IsReady t out there
-  pub above : FitsOut t out there
+-- OUT is an empty folder, or nothing stands there and a folder above
+abbrev pub IsProperOut : Tree → List ℕ → Type 0
+IsProperOut t out = IsReady t out Empty ⊎ (IsReady t out Absent × (has_folder t (above (parts out)) ≡ true))
 
 -- the fences let OUT be asked for, and it and what is below it by names be written
 pub record LetsOut (guard : Guard) (out : List ℕ) : Type 0 where

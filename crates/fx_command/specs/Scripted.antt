@@ -1,22 +1,21 @@
 -- What the text of a script stands for, and why it stands for none.
-use Rattle.std.specs.Prelude.{◌≡◌, ◌+◌, ◌≤◌, ℕ, List, [], length, All, Err}
+use Rattle.std.specs.Prelude.{◌≡◌, ◌+◌, ◌≤◌, ℕ, List, length, Ok, Err}
 use Rattle.fx_base.specs.Limits.{txn_limit}
-use Rattle.fx_check.specs.Checked.{checked_script}
+use Rattle.fx_check.specs.Checked.{checked_txns, checked_script}
 use Rattle.fx_check.specs.Faults.{Fault}
 use Rattle.fx_grammar.specs.Grammars.{scripts}
 use Rattle.fx_grammar.specs.Refused.{IsRefused}
 use Rattle.fx_grammar.specs.Texts as texts
-use Rattle.fx_spec.specs.CommandTree.{CommandTree, block}
-use Rattle.fx_spec.specs.WellShaped.{IsBlock}
+use Rattle.fx_spec.specs.CommandTree.{CommandTree}
 use Rattle.fx_command.specs.declared.fault.SourceFault.{SourceFault}
 use Rattle.fx_command.specs.declared.fault.SourceFault.TheVariants as refusal
 use Rattle.fx_command.specs.declared.status.TextFault.{TextFault}
 use Rattle.fx_command.specs.Causes.{IsCause}
 
--- the text stands for these transactions, whose names and shapes fit, and which are at most 100,000 with those before
+-- the text stands for these transactions, which have no fault of names and shapes, and are at most 100,000 with those before
 pub record Scripts (text : List ℕ) (before : ℕ) (txns : List (List CommandTree)) : Type 0 where
   pub read : texts.IsScript text txns
-  pub shapes : All (λ t. IsBlock [] (block t)) txns
+  pub fits : checked_txns txns ≡ Ok txns
   pub few : before + length txns ≤ txn_limit
 
 -- the text stands for transactions whose first fault is this one

@@ -7,7 +7,7 @@ ghost use Rattle.fx_command.specs.StatusOf.{status_of};
 
 use crate::print::print_all;
 use crate::status::Status;
-use fx_folder::save;
+use fx_folder::{Out, save};
 use fx_outside::{Host, HostText, Sink};
 use fx_store::Filestore;
 use std::alloc::Global;
@@ -17,7 +17,7 @@ use std::alloc::Global;
 pub fn save_and_print<H: Host, S: Sink>(
     alloc: Global,
     path: &HostText,
-    there: bool,
+    there: Out,
     store: &Filestore,
     output: &[u8],
     host: &mut H,

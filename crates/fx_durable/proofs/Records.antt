@@ -5,7 +5,7 @@ use Rattle.std.proofs.lemmas.List.Elements.{All-head, All-tail}
 use Rattle.std.proofs.lemmas.Nat.{from_be_bytes-to_be_bytes_4}
 use Rattle.std.proofs.lemmas.Bool.Decides.{nat_tests}
 use Rattle.fx_base.specs.Limits.{txn_limit}
-use Rattle.fx_durable.specs.Journal.{payload, turn_in, turn_before, reading, value_of, records, at_rest, FitsRecord, Spells}
+use Rattle.fx_durable.specs.Journal.{payload, turn_in, turn_before, reading, records, at_rest, FitsRecord, Spells}
 use Rattle.fx_spec.specs.Plans.{Turn}
 
 pub length-records : (order : List Turn) → length (records order) ≡ 9 * length order
@@ -40,4 +40,4 @@ reading-records (suc left) (p ∷ order) gate rest fit room shut =
     ∙ ap (λ r. turn_before p r) (reading-records left order gate rest (All-tail FitsRecord p order fit) (omega (arith, room)) shut)
 
 pub spells_closed : (order : List Turn) (gate : ℕ) (rest : List ℕ) → All FitsRecord order → length order ≤ txn_limit → gate ≢ 1 → Spells order (records order ++ gate ∷ rest)
-spells_closed order gate rest fit room shut = ap value_of (reading-records txn_limit order gate rest fit room shut)
+spells_closed order gate rest fit room shut = reading-records txn_limit order gate rest fit room shut

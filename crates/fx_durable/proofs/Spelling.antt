@@ -7,7 +7,7 @@ use Rattle.std.proofs.lemmas.Bool.{false≢true}
 use Rattle.std.proofs.lemmas.List.{append-nil, take_all, drop-take, length-take, length-drop, map-append, drop-drop}
 use Rattle.std.proofs.lemmas.Bool.Decides.{nat_tests}
 use Rattle.fx_base.specs.Limits.{txn_limit}
-use Rattle.fx_durable.specs.Journal.{turn_before, reading, is_open, turn_in, turn_of, turns_of, value_of, IsReadImage, ReadsOrder, IsUnread, HasJournalFault, IsCalm}
+use Rattle.fx_durable.specs.Journal.{turn_before, reading, is_open, turn_in, turn_of, turns_of, IsReadImage, ReadsOrder, IsUnread, HasJournalFault, IsCalm}
 use Rattle.fx_durable.specs.Disk.{File, DiskView, IsAsTold, TellsLength}
 use Rattle.fx_durable.specs.declared.journal_fault.JournalFault.{JournalFault}
 use Rattle.fx_durable.specs.declared.journal_fault.JournalFault.TheVariants as fault
@@ -139,7 +139,7 @@ same_reading seen bytes is = elim (cases_lt (length bytes) 900001) [
 ]
 
 reads_same : (seen bytes : List ℕ) (r : Result (List Pair) JournalFault) → reading txn_limit bytes ≡ reading txn_limit seen → ReadsOrder bytes r → ReadsOrder seen r
-reads_same seen bytes (Ok pairs) same reads = ap value_of (sym same) ∙ reads
+reads_same seen bytes (Ok pairs) same reads = sym same ∙ reads
 reads_same seen bytes (Err (fault.Broken n)) same reads = sym same ∙ reads
 reads_same seen bytes (Err fault.Failed) same reads = tt
 reads_same seen bytes (Err fault.NoMemory) same reads = tt

@@ -1,6 +1,6 @@
 -- What the bytes of a journal spell. A record has nine: a gate, and the numbers of a shell and of a transaction, each as four bytes
 -- of which the highest comes first.
-use Rattle.std.specs.Prelude.{false, ◌≡◌, ◌⊎◌, ◌==◌, ◌<◌, ◌≤◌, ◌+◌, ◌^◌, ℕ, zero, suc, List, [], ◌∷◌, ◌++◌, length, take, drop, if◌then◌else◌, nat_lt, Bool, Option, Some, None, Result, Ok, Err, IfSome, IsSomeAnd, All, map}
+use Rattle.std.specs.Prelude.{false, ◌≡◌, ◌⊎◌, ◌==◌, ◌<◌, ◌≤◌, ◌+◌, ◌^◌, ℕ, zero, suc, List, [], ◌∷◌, ◌++◌, length, take, drop, if◌then◌else◌, nat_lt, Bool, Result, Ok, Err, IfSome, IsSomeAnd, All, map}
 use Rattle.std.specs.Int.{w32, to_be_bytes, from_be_bytes}
 use Rattle.fx_base.specs.Limits.{txn_limit}
 use Rattle.fx_spec.specs.Plans.{Turn}
@@ -35,14 +35,6 @@ reading left [] = Ok []
 reading zero (gate ∷ rest) = if gate == 1 then Err 0 else Ok []
 reading (suc left) (gate ∷ rest) = if gate == 1 then (if nat_lt (length rest) 8 then Err 0 else turn_before (turn_in rest) (reading left (drop 8 rest))) else Ok []
 
-abbrev pub value_of : Result (List Turn) ℕ → Option (List Turn)
-value_of (Ok order) = Some order
-value_of (Err record_number) = None
-
--- the order that an image spells, if none of its records breaks
-abbrev pub spelled_order : List ℕ → Option (List Turn)
-spelled_order image = value_of (reading txn_limit image)
-
 -- an open record for each turn of an order
 abbrev pub records : List Turn → List ℕ
 records [] = []
@@ -67,8 +59,9 @@ pub record RestsAt (count : ℕ) (order : List Turn) (file : File) : Type 0 wher
 abbrev pub Rests : ℕ → DiskView → Type 0
 Rests count disk = IfSome disk.told (λ file. (order : List Turn) × RestsAt count order file)
 
+-- the image spells this order, and none of its records breaks
 abbrev pub Spells : List Turn → List ℕ → Type 0
-Spells order image = spelled_order image ≡ Some order
+Spells order image = reading txn_limit image ≡ Ok order
 
 -- the image spells no order, and this is the number of the first record that is cut short or is one too many
 abbrev pub Breaks : ℕ → List ℕ → Type 0

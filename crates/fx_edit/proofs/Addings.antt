@@ -9,7 +9,7 @@ use Rattle.fx_store.specs.Resolve.{◌/ₚ◌}
 use Rattle.fx_store.specs.Rule.{Ask, Answer, Look, ◌>>=◌}
 use Rattle.fx_store.proofs.Asks.{ask-bind-assoc}
 use Rattle.fx_expr.specs.Sets.{set_of}
-use Rattle.fx_spec.specs.Edit.{set_to, removed, names_of, clear_all, cleared, clear_levels, clear, entry, entries, new_names}
+use Rattle.fx_spec.specs.Edit.{set_to, removed, names_of, cleared, clear_levels, clear, entry, entries, new_names}
 use Rattle.fx_edit.specs.Rules.{adding, edit_answer, listing, cleared_listing}
 
 abbrev Path : Type 0
@@ -39,10 +39,6 @@ adding-entries change before n names =
 
 -- ---- a removal
 
-clear_all-entries : (clear : Path → Ask (List Change)) (q : Path) (names : List (List ℕ)) → clear_all clear q names ≡ entries (λ n. clear (q /ₚ n)) names
-clear_all-entries clear q [] = refl
-clear_all-entries clear q (n ∷ names) = ap (λ (r : Ask (List Change)). clear (q /ₚ n) >>= λ first. r >>= λ rest. Answer (first ++ rest)) (clear_all-entries clear q names)
-
 clear_levels-below : (q : Path) (n : List ℕ) → clear_levels (64 - length q) (q /ₚ n) ≡ clear (q /ₚ n)
 unfolding clear
 clear_levels-below q n = ap (λ k. clear_levels k (q /ₚ n)) (omega (arith, length-append q (n ∷ [])))
@@ -58,7 +54,7 @@ clear-is q short =
     at None = refl
     at (Some node) =
         ap (λ (r : Ask (List Change)). r >>= λ below. Answer (removed q ∷ below))
-        (clear_all-entries (λ p. clear_levels (64 - length q) p) q (names_of (Some node)) ∙ ap (λ (change : List ℕ → Ask (List Change)). entries change (names_of (Some node))) (fun_ext (λ n. clear_levels-below q n)))
+        (ap (λ (change : List ℕ → Ask (List Change)). entries change (names_of (Some node))) (fun_ext (λ n. clear_levels-below q n)))
 
 -- no entry has a path of more than 64 names
 pub clear-deep : (q : Path) → 64 < length q → clear q ≡ Answer []

@@ -1,11 +1,11 @@
 -- A value has its expression's shape.
 use Rattle.std.proofs.Common.{◌≡◌, ℕ, Bool, true, false, cond, List, [], ◌∷◌, Option, Some, None, Ok, Err, IfOk, nat_eq, refl, ap, sym, subst, ◌∙◌}
-use Rattle.std.specs.Option.{unwrap_or}
+use Rattle.std.specs.Option.{unwrap_or, option_or}
 use Rattle.std.specs.Cmp.Lexicographic.{pointwise}
 use Rattle.fx_expr.specs.declared.expr.BinOp.{BinOp}
 use Rattle.fx_expr.specs.declared.expr.UnOp.{UnOp}
 use Rattle.fx_expr.specs.declared.fault.ExprFault.{ExprFault}
-use Rattle.fx_expr.specs.Bindings.{bound, newer_or}
+use Rattle.fx_expr.specs.Bindings.{bound}
 use Rattle.fx_expr.specs.Eval.{Outcome, eval_of, then_on, unless, two, one, decided, first_in, second_in, truth_in}
 use Rattle.fx_expr.specs.Shapes.{HasShape, ValueHas, BinShape, UnShape, BindingsHave}
 use Rattle.fx_expr.specs.Tree.{Tree}
@@ -21,12 +21,12 @@ bound_nowhere (b ∷ env) [] x h e = absurd h
 bound_nowhere (b ∷ env) (s ∷ g) x h e = by (bound g x) refl (bound_nowhere env g x h.2)
   where
     here : (t : Bool) → pointwise nat_eq s.0 x ≡ t → bound g x ≡ None → bound env x ≡ None → bound (b ∷ env) x ≡ None
-    here true f none rest = absurd (let p : Some s.1 ≡ None = sym (ap (λ t. cond t (Some s.1) None) f) ∙ sym (ap (λ o. newer_or o (cond (pointwise nat_eq s.0 x) (Some s.1) None)) none) ∙ e in cc)
-    here false f none rest = ap (λ o. newer_or o (cond (pointwise nat_eq b.0 x) (Some b.1) None)) rest ∙ ap (λ t. cond t (Some b.1) None) (ap (λ w. pointwise nat_eq w x) h.0 ∙ f)
+    here true f none rest = absurd (let p : Some s.1 ≡ None = sym (ap (λ t. cond t (Some s.1) None) f) ∙ sym (ap (λ o. option_or o (cond (pointwise nat_eq s.0 x) (Some s.1) None)) none) ∙ e in cc)
+    here false f none rest = ap (λ o. option_or o (cond (pointwise nat_eq b.0 x) (Some b.1) None)) rest ∙ ap (λ t. cond t (Some b.1) None) (ap (λ w. pointwise nat_eq w x) h.0 ∙ f)
 
     by : (o : Option ShapeTree) → bound g x ≡ o → (bound g x ≡ None → bound env x ≡ None) → bound (b ∷ env) x ≡ None
     by None f rest = here (pointwise nat_eq s.0 x) refl f (rest f)
-    by (Some t) f rest = absurd (let p : Some t ≡ None = sym (ap (λ o. newer_or o (cond (pointwise nat_eq s.0 x) (Some s.1) None)) f) ∙ e in cc)
+    by (Some t) f rest = absurd (let p : Some t ≡ None = sym (ap (λ o. option_or o (cond (pointwise nat_eq s.0 x) (Some s.1) None)) f) ∙ e in cc)
 
 -- the value that a word is bound to
 pub record Bound (env : List (List ℕ × Tree)) (x : List ℕ) (s : ShapeTree) : Type 0 where
@@ -42,24 +42,24 @@ bound_has (b ∷ env) (t ∷ g) x s h e = by (bound g x) refl (λ r. bound_has e
   where
     here : (c : Bool) → pointwise nat_eq t.0 x ≡ c → bound g x ≡ None → Bound (b ∷ env) x s
     here true f none =
-        let p : Some t.1 ≡ Some s = sym (ap (λ c. cond c (Some t.1) None) f) ∙ sym (ap (λ o. newer_or o (cond (pointwise nat_eq t.0 x) (Some t.1) None)) none) ∙ e in
+        let p : Some t.1 ≡ Some s = sym (ap (λ c. cond c (Some t.1) None) f) ∙ sym (ap (λ o. option_or o (cond (pointwise nat_eq t.0 x) (Some t.1) None)) none) ∙ e in
         let same : t.1 ≡ s = cc in
         record {
           value = b.1;
-          is = ap (λ o. newer_or o (cond (pointwise nat_eq b.0 x) (Some b.1) None)) (bound_nowhere env g x h.2 none) ∙ ap (λ c. cond c (Some b.1) None) (ap (λ w. pointwise nat_eq w x) h.0 ∙ f);
+          is = ap (λ o. option_or o (cond (pointwise nat_eq b.0 x) (Some b.1) None)) (bound_nowhere env g x h.2 none) ∙ ap (λ c. cond c (Some b.1) None) (ap (λ w. pointwise nat_eq w x) h.0 ∙ f);
           has = subst (λ (r : ShapeTree). ValueHas b.1 r) same h.1;
         }
-    here false f none = absurd (let p : None ≡ Some s = sym (ap (λ c. cond c (Some t.1) None) f) ∙ sym (ap (λ o. newer_or o (cond (pointwise nat_eq t.0 x) (Some t.1) None)) none) ∙ e in cc)
+    here false f none = absurd (let p : None ≡ Some s = sym (ap (λ c. cond c (Some t.1) None) f) ∙ sym (ap (λ o. option_or o (cond (pointwise nat_eq t.0 x) (Some t.1) None)) none) ∙ e in cc)
 
     by : (o : Option ShapeTree) → bound g x ≡ o → ((r : ShapeTree) → bound g x ≡ Some r → Bound env x r) → Bound (b ∷ env) x s
     by None f rest = here (pointwise nat_eq t.0 x) refl f
     by (Some r) f rest =
-        let p : Some r ≡ Some s = sym (ap (λ o. newer_or o (cond (pointwise nat_eq t.0 x) (Some t.1) None)) f) ∙ e in
+        let p : Some r ≡ Some s = sym (ap (λ o. option_or o (cond (pointwise nat_eq t.0 x) (Some t.1) None)) f) ∙ e in
         let same : r ≡ s = cc in
         let found : Bound env x r = rest r f in
         record {
           value = found.value;
-          is = ap (λ o. newer_or o (cond (pointwise nat_eq b.0 x) (Some b.1) None)) found.is;
+          is = ap (λ o. option_or o (cond (pointwise nat_eq b.0 x) (Some b.1) None)) found.is;
           has = subst (λ (q : ShapeTree). ValueHas found.value q) same found.has;
         }
 

@@ -1,7 +1,7 @@
 ghost use Rattle.std.specs.Prelude.{◌≡◌, ◌<◌, ◌++◌, [], ◌∷◌, List, ℕ, Some, IfOk, IfSome, OnOk, OnErr, MatchOption, None, length, slice_get, slice_set, map, take};
-ghost use Rattle.std.specs.Option.{option_map};
+ghost use Rattle.std.specs.Option.{option_map, unwrap_or};
 ghost use Rattle.std.specs.Slice.Iter.{iter_rest};
-ghost use Rattle.fx_expr.specs.Bindings.{bound, assigned, or_same, IsNewest};
+ghost use Rattle.fx_expr.specs.Bindings.{bound, assigned, IsNewest};
 ghost use Rattle.fx_expr.specs.Views.{entry_tree, tree_of};
 
 use crate::parts::let_go;
@@ -96,7 +96,7 @@ impl Env {
 
     /// Gives a new value to a word's newest binding; changes nothing where the word has none.
     pub fn set(&mut self, word: &Word, value: Value)
-        ensures { self.new ≡ or_same self.old (assigned word.now (tree_of value) self.old) }
+        ensures { self.new ≡ unwrap_or (assigned word.now (tree_of value) self.old) self.old }
     {
         match newest(self.bindings.as_slice(), word) {
             Some(i) => put(&mut self.bindings, i, value),

@@ -1,5 +1,5 @@
 -- What stands below a folder is, name by name of its listing, the entry of the name and what stands below that.
-use Rattle.fx_folder.proofs.Prelude.{◌≡◌, inl, inr, ℕ, Bool, true, false, not, cond, T, List, [], ◌∷◌, ◌++◌, map, Option, Some, None, option_map, refl, sym, ◌∙◌, ap, subst, append_assoc, append-nil, ⊤, Ordering, Less, Equal, Greater, is_eq, is_lt, eq_by_cmp, ordering_then, tied_itself, option_and_then, option_map_or, filter_map, flat_map, cons_option, get, entries, find, is_sorted, entries_sorted, get-entries, below_all, same_entries, cases_Bool, map-append, filter-append, rest_append, rest_is, pushed_some, same_front, HostKind, Names, name_cmp, Parts, parts_cmp, Tree, Entry, IsWhole, Lists, both, first, second, is_less, less_test, name_total, name_same, parts_total, parts_same, true_test, Item, rest_of, Held, inside, held_below, all_below, walked, is_table_entry, item, items_of, item_path, in_table, bytes_in, held_of, below_names, branch, ahead, IsThere, AreThere}
+use Rattle.fx_folder.proofs.Prelude.{all_both, pushed_some, same_front, Held, all_below, held_below, in_table, inside, walked, AreThere, IsThere, ahead, below_names, branch, bytes_in, held_of, item, item_path, items_of, Item, both, first, is_less, less_test, second, strictly_sorted, name_same, name_total, parts_same, parts_total, true_test, Names, name_cmp, Parts, parts_cmp, Entry, IsWhole, Lists, Tree, HostKind, rest_append, rest_is, AreFound, all_found, rest_of, Bool, List, None, Option, Some, T, [], ap, append-nil, append_assoc, cond, false, inl, inr, map, not, option_map, refl, subst, sym, true, ℕ, ◌++◌, ◌∙◌, ◌∷◌, ◌≡◌, cases_Bool, map-append, filter-append, entries, entries_sorted, find, get, get-entries, is_sorted, below_all, same_entries, cons_option, filter_map, flat_map, option_and_then, option_map_or, eq_by_cmp, is_eq, is_lt, ordering_then, ⊤, Ordering, Equal, Greater, Less}
 use Rattle.fx_folder.proofs.Filled.{none_below, none_in}
 use Rattle.fx_folder.proofs.Ordered.{none_behind}
 
@@ -221,26 +221,22 @@ ahead_push t at [] x = sym (append-nil (branch t at x))
 ahead_push t at (y ∷ xs) x = ap (λ l. l ++ branch t at y) (ahead_push t at xs x) ∙ append_assoc (branch t at x) (ahead t at xs) (branch t at y)
 
 walked_append : (xs ys : List Held) → walked (xs ++ ys) ≡ walked xs ++ walked ys
-walked_append xs ys = filter-append (λ h. not (is_table_entry h)) xs ys
+walked_append xs ys = filter-append (λ (h : Held). not (in_table h.0)) xs ys
 
 in_table_more : (q r : Parts) → in_table q ≡ true → in_table (q ++ r) ≡ true
 in_table_more [] r e = cc
 in_table_more (x ∷ q) r e = e
 
-pub table_is : (h : Held) → is_table_entry h ≡ in_table h.0
-table_is ([], e) = refl
-table_is (x ∷ q, e) = refl
-
 walked_none : (p : Parts) (xs : List Held) → in_table p ≡ true → walked (map (below_names p) xs) ≡ []
 walked_none p [] e = refl
 walked_none p (x ∷ xs) e =
-    ap (λ b. cond (not b) (below_names p x ∷ walked (map (below_names p) xs)) (walked (map (below_names p) xs))) (table_is (below_names p x) ∙ in_table_more p x.0 e)
+    ap (λ b. cond (not b) (below_names p x ∷ walked (map (below_names p) xs)) (walked (map (below_names p) xs))) (in_table_more p x.0 e)
     ∙ walked_none p xs e
 
 walked_branch : (t : Tree) (at : Parts) (x : Item) → in_table (item_path x) ≡ true → walked (branch t at x) ≡ []
 walked_branch t at x e =
     let rest = map (below_names (item_path x)) (all_below t (at ++ item_path x)) in
-    ap (λ b. cond (not b) (held_of t at x ∷ walked rest) (walked rest)) (table_is (held_of t at x) ∙ e)
+    ap (λ b. cond (not b) (held_of t at x ∷ walked rest) (walked rest)) e
     ∙ walked_none (item_path x) (all_below t (at ++ item_path x)) e
 
 ahead_items : (t : Tree) (at p : Parts) (es : List (List ℕ × HostKind)) (xs : List Item) → walked (ahead t at (xs ++ items_of p es)) ≡ walked (branches t at p es ++ ahead t at xs)
@@ -264,57 +260,18 @@ ahead_items t at p (e ∷ es) xs =
           ∙ sym last
     ]
 
-pub there_append : (t : Tree) (at : Parts) (xs ys : List Item) → AreThere t at xs → AreThere t at ys → AreThere t at (xs ++ ys)
-there_append t at [] ys a b = b
-there_append t at (x ∷ xs) ys a b = (a.0, there_append t at xs ys a.1 b)
-
-pub there_front : (t : Tree) (at : Parts) (xs ys : List Item) → AreThere t at (xs ++ ys) → AreThere t at xs
-there_front t at [] ys a = tt
-there_front t at (x ∷ xs) ys a = (a.0, there_front t at xs ys a.1)
-
-pub there_last : (t : Tree) (at : Parts) (xs : List Item) (x : Item) → AreThere t at (xs ++ x ∷ []) → IsThere t at x
-there_last t at [] x a = a.0
-there_last t at (y ∷ xs) x a = there_last t at xs x a.1
-
 -- each entry of a listing stands in the folder
 abbrev AreListed : Tree → Parts → List (List ℕ × HostKind) → Type 0
 AreListed t q [] = ⊤
 AreListed t q (e ∷ es) = (option_map (λ x. x.kind) (get t (q ++ e.0 ∷ [])) ≡ Some e.1) × AreListed t q es
 
-abbrev AreFound : List (List ℕ × HostKind) → List (List ℕ × HostKind) → Type 0
-AreFound [] es = ⊤
-AreFound (f ∷ fs) es = (find name_cmp f.0 es ≡ Some f.1) × AreFound fs es
-
-not_tied : (p q : List ℕ) → name_cmp p q ≡ Less → eq_by_cmp name_cmp q p ≡ false
-not_tied p q less = elim (cases_Bool (eq_by_cmp name_cmp q p)) [
-  | inl same ↦
-      let is : q ≡ p = name_same q p (true_test _ (sym same)) in
-      let tied : name_cmp p q ≡ Equal = ap (name_cmp p) is ∙ tied_itself name_total p in
-      cc
-  | inr apart ↦ apart
-]
-
-found_behind : (e : List ℕ × HostKind) (fs es : List (List ℕ × HostKind)) → T (below_all name_cmp e.0 fs) → AreFound fs es → AreFound fs (e ∷ es)
-found_behind e [] es below found = tt
-found_behind e (f ∷ fs) es below found = (
-  ap (λ b. cond b (Some e.1) (find name_cmp f.0 es)) (not_tied e.0 f.0 (is_less _ (first (is_lt (name_cmp e.0 f.0)) _ below))) ∙ found.0,
-  found_behind e fs es (second (is_lt (name_cmp e.0 f.0)) _ below) found.1,
-)
-
-all_found : (es : List (List ℕ × HostKind)) → T (is_sorted name_cmp es) → AreFound es es
-all_found [] sorted = tt
-all_found (e ∷ es) sorted = (
-  ap (λ o. cond (is_eq o) (Some e.1) (find name_cmp e.0 es)) (tied_itself name_total e.0),
-  found_behind e es es (first (below_all name_cmp e.0 es) _ sorted) (all_found es (second (below_all name_cmp e.0 es) _ sorted)),
-)
-
-are_listed : (t : Tree) (q : Parts) (names : Names) (fs : List (List ℕ × HostKind)) → Lists t q names → AreFound fs (entries names) → AreListed t q fs
+are_listed : (t : Tree) (q : Parts) (names : Names) (fs : List (List ℕ × HostKind)) → Lists t q names → AreFound name_cmp fs (entries names) → AreListed t q fs
 are_listed t q names [] lists found = tt
 are_listed t q names (f ∷ fs) lists found = (sym (lists f.0) ∙ (get-entries names f.0 ∙ found.0), are_listed t q names fs lists found.1)
 
 there_items : (t : Tree) (at p : Parts) (es : List (List ℕ × HostKind)) → AreListed t (at ++ p) es → AreThere t at (items_of p es)
 there_items t at p [] listed = tt
-there_items t at p (e ∷ es) listed = there_append t at (items_of p es) (cond (in_table (p ++ e.0 ∷ [])) [] (item p e ∷ [])) (there_items t at p es listed.1) (by (in_table (p ++ e.0 ∷ [])) refl)
+there_items t at p (e ∷ es) listed = all_both (IsThere t at) (items_of p es) (cond (in_table (p ++ e.0 ∷ [])) [] (item p e ∷ [])) (there_items t at p es listed.1) (by (in_table (p ++ e.0 ∷ [])) refl)
   where
     by : (b : Bool) → in_table (p ++ e.0 ∷ []) ≡ b → AreThere t at (cond b [] (item p e ∷ []))
     by true is = tt
@@ -327,4 +284,4 @@ items_ahead t whole at p names xs lists =
     ∙ ap (λ l. walked (l ++ ahead t at xs)) (sym (blocks_branches t at p (entries names)) ∙ ap (map (below_names p)) (sym (below_blocks t whole (at ++ p) names lists)))
 
 pub items_there : (t : Tree) (at p : Parts) (names : Names) (xs : List Item) → Lists t (at ++ p) names → AreThere t at xs → AreThere t at (xs ++ items_of p (entries names))
-items_there t at p names xs lists there = there_append t at xs (items_of p (entries names)) there (there_items t at p (entries names) (are_listed t (at ++ p) names (entries names) lists (all_found (entries names) (entries_sorted names))))
+items_there t at p names xs lists there = all_both (IsThere t at) xs (items_of p (entries names)) there (there_items t at p (entries names) (are_listed t (at ++ p) names (entries names) lists (all_found name_total (entries names) (strictly_sorted name_cmp (entries names) (entries_sorted names)))))

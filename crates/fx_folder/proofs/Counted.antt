@@ -1,5 +1,5 @@
 -- The entries of a whole filestore's folder: in their order, and how many there are.
-use Rattle.fx_folder.proofs.Prelude.{◌≡◌, inl, inr, ℕ, ◌+◌, ◌≤◌, true, false, cond, T, List, [], ◌∷◌, length, sum_by, Option, Some, None, refl, sym, ◌∙◌, ap, subst, arith, is_lt, eq_by_cmp, option_map, filter_map, find, is_sorted, below_all, cases_Bool, sum_by-cons, Entry, file, folder, both, first, second, Node, File, Dir, Link, path_cmp, path_eq_same, host_entry, TableLine, TableLink, line_at, links_among, Held, all_bytes, Mapped, counted_bytes, sizes_of, found}
+use Rattle.fx_folder.proofs.Prelude.{Held, all_bytes, counted_bytes, sizes_of, host_entry, both, first, second, Entry, file, folder, path_cmp, path_eq_same, Node, Dir, File, Link, found, Mapped, TableLink, line_at, links_among, TableLine, List, None, Option, Some, T, [], ap, arith, cond, false, inl, inr, length, option_map, refl, subst, sum_by, sym, true, ℕ, ◌+◌, ◌<◌, ◌∙◌, ◌∷◌, ◌≡◌, ◌≤◌, cases_Bool, nat_tests, sum_by-cons, find, is_sorted, below_all, filter_map, eq_by_cmp, is_lt, nat_lt}
 pub use Rattle.fx_folder.proofs.Ordered.{none_behind}
 
 abbrev Paths : Type 0
@@ -80,6 +80,20 @@ held_sorted ((n ∷ r, File bytes exec) ∷ es) up = both (below_all path_cmp (n
 held_sorted ((n ∷ r, Dir names) ∷ es) up = both (below_all path_cmp (n ∷ r) (held_of es)) _ (below_held (n ∷ r) es (first (below_all path_cmp (n ∷ r) es) _ up)) (held_sorted es (rest_sorted (n ∷ r) (Dir names) es up))
 held_sorted ((n ∷ r, Link text) ∷ es) up = held_sorted es (rest_sorted (n ∷ r) (Link text) es up)
 
+-- ---- tests of numbers
+
+pub at_most : (n m : ℕ) → nat_lt m n ≡ false → n ≤ m
+at_most n m e = grind (arith, nat_tests)
+
+pub not_above : (n m : ℕ) → n ≤ m → nat_lt m n ≡ false
+not_above n m le = grind (arith, nat_tests)
+
+pub below : (n m : ℕ) → nat_lt n m ≡ true → n < m
+below n m e = grind (arith, nat_tests)
+
+pub is_below : (n m : ℕ) → n < m → nat_lt n m ≡ true
+is_below n m lt = grind (arith, nat_tests)
+
 -- ---- counts
 
 abbrev pub lines_in : List Mapped → List TableLine
@@ -92,58 +106,66 @@ links_in es = links_among (lines_in es)
 abbrev pub texts_of : List TableLink → ℕ
 texts_of links = sum_by (λ (l : TableLink). length l.text) links
 
--- what the root adds to each
-pub count_held : (es : List Mapped) → length (held_of es) + length (links_in es) ≤ length es
-count_held [] = omega arith
-count_held (([], File bytes true) ∷ es) = let rest = count_held es in omega arith
-count_held (([], File bytes false) ∷ es) = let rest = count_held es in omega arith
-count_held (([], Dir names) ∷ es) = let rest = count_held es in omega arith
-count_held (([], Link text) ∷ es) = let rest = count_held es in omega arith
-count_held ((n ∷ r, File bytes true) ∷ es) = let rest = count_held es in omega arith
-count_held ((n ∷ r, File bytes false) ∷ es) = let rest = count_held es in omega arith
-count_held ((n ∷ r, Dir names) ∷ es) = let rest = count_held es in omega arith
-count_held ((n ∷ r, Link text) ∷ es) = let rest = count_held es in omega arith
-
 pub more_bytes : (h : Held) (hs : List Held) → all_bytes (h ∷ hs) ≡ length h.1.bytes + all_bytes hs
 more_bytes h hs = sum_by-cons (λ (x : Held). length x.1.bytes) h hs
 
 more_texts : (l : TableLink) (ls : List TableLink) → texts_of (l ∷ ls) ≡ length l.text + texts_of ls
 more_texts l ls = sum_by-cons (λ (x : TableLink). length x.text) l ls
 
-pub more_sizes : (e : Mapped) (es : List Mapped) → sizes_of (e ∷ es) ≡ counted_bytes e.1 + sizes_of es
+more_sizes : (e : Mapped) (es : List Mapped) → sizes_of (e ∷ es) ≡ counted_bytes e.1 + sizes_of es
 more_sizes e es = sum_by-cons (λ (x : Mapped). counted_bytes x.1) e es
 
-pub sum_held : (es : List Mapped) → all_bytes (held_of es) + texts_of (links_in es) ≤ sizes_of es
-sum_held [] = omega arith
-sum_held (([], File bytes true) ∷ es) = let rest = sum_held es in let all = more_sizes ([], File bytes true) es in omega arith
-sum_held (([], File bytes false) ∷ es) = let rest = sum_held es in let all = more_sizes ([], File bytes false) es in omega arith
-sum_held (([], Dir names) ∷ es) = let rest = sum_held es in let all = more_sizes ([], Dir names) es in omega arith
-sum_held (([], Link text) ∷ es) =
-    let rest = sum_held es in
-    let all = more_sizes ([], Link text) es in
-    let link = more_texts (record { path = []; text = text }) (links_in es) in
-    omega arith
-sum_held ((n ∷ r, File bytes true) ∷ es) =
-    let rest = sum_held es in
+-- ---- below the root, each node is an entry or a link
+
+rest_behind : (e : Mapped) (es : List Mapped) → T (below_all path_cmp [] (e ∷ es)) → T (below_all path_cmp [] es)
+rest_behind e es up = second (is_lt (path_cmp [] e.0)) _ up
+
+no_second : (node : Node) (es : List Mapped) → T (below_all path_cmp [] (([], node) ∷ es)) → ⊥
+no_second node es up = first false (below_all path_cmp [] es) up
+
+all_counted : (es : List Mapped) → T (below_all path_cmp [] es) → length es ≡ length (held_of es) + length (links_in es)
+all_counted [] up = omega arith
+all_counted (([], node) ∷ es) up = absurd (no_second node es up)
+all_counted ((n ∷ r, File bytes true) ∷ es) up = let rest = all_counted es (rest_behind (n ∷ r, File bytes true) es up) in omega arith
+all_counted ((n ∷ r, File bytes false) ∷ es) up = let rest = all_counted es (rest_behind (n ∷ r, File bytes false) es up) in omega arith
+all_counted ((n ∷ r, Dir names) ∷ es) up = let rest = all_counted es (rest_behind (n ∷ r, Dir names) es up) in omega arith
+all_counted ((n ∷ r, Link text) ∷ es) up = let rest = all_counted es (rest_behind (n ∷ r, Link text) es up) in omega arith
+
+-- and all bytes are those of entries and of links
+all_summed : (es : List Mapped) → T (below_all path_cmp [] es) → sizes_of es ≡ all_bytes (held_of es) + texts_of (links_in es)
+all_summed [] up = omega arith
+all_summed (([], node) ∷ es) up = absurd (no_second node es up)
+all_summed ((n ∷ r, File bytes true) ∷ es) up =
+    let rest = all_summed es (rest_behind (n ∷ r, File bytes true) es up) in
     let all = more_sizes (n ∷ r, File bytes true) es in
     let held = more_bytes (n ∷ r, file bytes) (held_of es) in
     omega arith
-sum_held ((n ∷ r, File bytes false) ∷ es) =
-    let rest = sum_held es in
+all_summed ((n ∷ r, File bytes false) ∷ es) up =
+    let rest = all_summed es (rest_behind (n ∷ r, File bytes false) es up) in
     let all = more_sizes (n ∷ r, File bytes false) es in
     let held = more_bytes (n ∷ r, file bytes) (held_of es) in
     omega arith
-sum_held ((n ∷ r, Dir names) ∷ es) =
-    let rest = sum_held es in
+all_summed ((n ∷ r, Dir names) ∷ es) up =
+    let rest = all_summed es (rest_behind (n ∷ r, Dir names) es up) in
     let all = more_sizes (n ∷ r, Dir names) es in
     let held = more_bytes (n ∷ r, folder) (held_of es) in
     omega arith
-sum_held ((n ∷ r, Link text) ∷ es) =
-    let rest = sum_held es in
+all_summed ((n ∷ r, Link text) ∷ es) up =
+    let rest = all_summed es (rest_behind (n ∷ r, Link text) es up) in
     let all = more_sizes (n ∷ r, Link text) es in
     let link = more_texts (record { path = n ∷ r; text = text }) (links_in es) in
     omega arith
 
--- with the root
-pub counted : (es : List Mapped) (names : List (List ℕ)) (rest : List Mapped) → es ≡ ([], Dir names) ∷ rest → length (held_of es) + length (links_in es) + 1 ≤ length es
-counted es names rest is = subst (λ l. length (held_of l) + length (links_in l) + 1 ≤ length l) (sym is) (let few = count_held rest in omega arith)
+-- with the root, which is a directory
+pub counted : (es : List Mapped) (names : List (List ℕ)) (rest : List Mapped) → es ≡ ([], Dir names) ∷ rest → T (is_sorted path_cmp es) → length es ≡ length (held_of es) + length (links_in es) + 1
+counted es names rest is up =
+    let sorted = subst (λ l. T (is_sorted path_cmp l)) is up in
+    subst (λ l. length l ≡ length (held_of l) + length (links_in l) + 1) (sym is) (let all = all_counted rest (first (below_all path_cmp [] rest) _ sorted) in omega arith)
+
+pub summed : (es : List Mapped) (names : List (List ℕ)) (rest : List Mapped) → es ≡ ([], Dir names) ∷ rest → T (is_sorted path_cmp es) → sizes_of es ≡ all_bytes (held_of es) + texts_of (links_in es)
+summed es names rest is up =
+    let sorted = subst (λ l. T (is_sorted path_cmp l)) is up in
+    subst (λ l. sizes_of l ≡ all_bytes (held_of l) + texts_of (links_in l)) (sym is) (
+    let all = all_summed rest (first (below_all path_cmp [] rest) _ sorted) in
+    let more = more_sizes ([], Dir names) rest in
+    omega arith)

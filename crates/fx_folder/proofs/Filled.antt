@@ -1,5 +1,5 @@
 -- What stands below a place of a host's tree, and a folder that is ready to be filled.
-use Rattle.fx_folder.proofs.Prelude.{◌≡◌, ◌≢◌, ℕ, Bool, true, false, not, ◌==◌, cond, ◌&&◌, ◌||◌, List, [], ◌∷◌, ◌++◌, length, Option, Some, None, refl, sym, ◌∙◌, ap, subst, arith, append_assoc, is_eq, eq_by_cmp, tied_itself, list_all, option_map_or, get, get-insert, nat_tests, length-slice_split, fifth_true, chosen_some, none_if_never, pushed_some, above_pushed, HostKind, Parts, parts, parts_cmp, above, is_fit, is_fit_part, has_no_slash, Tree, Entry, folder, has_folder, entry_at, is_folder_kind, is_file_kind, parts_total, longer, IsReady, with_folder, IsOpen}
+use Rattle.fx_folder.proofs.Prelude.{◌≡◌, ◌≢◌, ℕ, Bool, true, false, not, ◌==◌, cond, ◌&&◌, ◌||◌, List, [], ◌∷◌, ◌++◌, length, Option, Some, None, refl, sym, ◌∙◌, ap, subst, arith, append_assoc, is_eq, eq_by_cmp, tied_itself, list_all, option_map_or, get, get-insert, nat_tests, length-slice_split, fifth_true, chosen_some, none_if_never, pushed_some, above_pushed, HostKind, Parts, parts, parts_cmp, above, is_fit, is_fit_part, has_no_slash, Tree, Entry, folder, has_folder, entry_at, is_folder_kind, is_file_kind, parts_total, longer, IsReady, with_folder, IsOpen, Out, Absent, Empty}
 use Rattle.fx_outside.specs.declared.kind.HostKind.TheVariants as kinds
 use Rattle.fx_outside.specs.Tree as tree
 
@@ -45,14 +45,14 @@ none_below t whole at empty a (b ∷ r) =
     ap (get t) (sym (append_assoc at (a ∷ []) (b ∷ r))) ∙ deeper
 
 -- a folder in which files may be written: it stands there, or is made first, and nothing is in it
-pub record CanFill (t : Tree) (at : Parts) (there : Bool) : Type 0 where
+pub record CanFill (t : Tree) (at : Parts) (there : Out) : Type 0 where
   pub some : at ≢ []
   pub folder : get (with_folder t at there) at ≡ Some folder
   pub empty : (n : List ℕ) → get t (at ++ n ∷ []) ≡ None
 
-pub beside_folder : (t : Tree) (at : Parts) (there : Bool) (q : Parts) → eq_by_cmp parts_cmp q at ≡ false → get (with_folder t at there) q ≡ get t q
-beside_folder t at true q apart = refl
-beside_folder t at false q apart = get-insert parts_total t at folder q ∙ ap (λ b. cond b (Some folder) (get t q)) apart
+pub beside_folder : (t : Tree) (at : Parts) (there : Out) (q : Parts) → eq_by_cmp parts_cmp q at ≡ false → get (with_folder t at there) q ≡ get t q
+beside_folder t at Empty q apart = refl
+beside_folder t at Absent q apart = get-insert parts_total t at folder q ∙ ap (λ b. cond b (Some folder) (get t q)) apart
 
 no_bytes : (n : ℕ) (bytes : List ℕ) → (length bytes == 0) ≡ true → bytes ≡ []
 no_bytes n [] e = refl
@@ -75,15 +75,15 @@ stands None h = cc
 stands (Some e) h = (e, refl, h)
 
 -- a path where a folder is ready is fit
-pub fit_of : (t : Tree) (path : List ℕ) (there : Bool) → IsReady t path there → is_fit path ≡ true
-fit_of t path true can =
+pub fit_of : (t : Tree) (path : List ℕ) (there : Out) → IsReady t path there → is_fit path ≡ true
+fit_of t path Empty can =
     let here = stands (entry_at t path) can.0 in
     (chosen_some (is_fit path) (get t (parts path)) here.0 here.1).0
-fit_of t path false can = can.0
+fit_of t path Absent can = can.0
 
 -- a folder that is ready can be filled
-pub can_fill : (t : Tree) (path : List ℕ) (there : Bool) → tree.IsWhole t → IsReady t path there → CanFill t (parts path) there
-can_fill t path true whole can =
+pub can_fill : (t : Tree) (path : List ℕ) (there : Out) → tree.IsWhole t → IsReady t path there → CanFill t (parts path) there
+can_fill t path Empty whole can =
     let here = stands (entry_at t path) can.0 in
     let e = here.0 in
     let p = parts path in
@@ -94,7 +94,7 @@ can_fill t path true whole can =
       folder = found ∙ ap Some (of_kind e.kind e.bytes here.2 placed);
       empty = can.1;
     }
-can_fill t path false whole can =
+can_fill t path Absent whole can =
     let none : get t (parts path) ≡ None = sym (cond_fit (is_fit path) (get t (parts path)) None can.0) ∙ can.1 in
     record {
       some = parts_some path;
@@ -103,7 +103,7 @@ can_fill t path false whole can =
     }
 
 -- and stands open then
-pub opens : (t : Tree) (path : List ℕ) (there : Bool) → tree.IsWhole t → IsReady t path there → IsOpen (with_folder t (parts path) there) path
+pub opens : (t : Tree) (path : List ℕ) (there : Out) → tree.IsWhole t → IsReady t path there → IsOpen (with_folder t (parts path) there) path
 opens t path there whole can =
     let fill = can_fill t path there whole can in
     record {

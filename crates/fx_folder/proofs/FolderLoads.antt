@@ -1,33 +1,14 @@
 -- A folder loads as a filestore exactly if it is the folder of that filestore.
-use Rattle.std.proofs.Common.{◌≡◌, inl, inr, ℕ, ◌+◌, ◌-◌, ◌≤◌, Bool, true, false, cond, not, List, [], ◌∷◌, ◌++◌, length, Option, Some, None, Ok, refl, sym, ◌∙◌, ap, subst, arith}
-use Rattle.std.specs.Prelude.{nat_lt, bytes_eq}
-use Rattle.std.specs.Cmp.{tied_itself}
-use Rattle.std.specs.Ordering.{is_eq, eq_by_cmp}
-use Rattle.std.specs.Option.{option_map_or}
-use Rattle.std.specs.FinMap.{get, find, remove, get-remove}
-use Rattle.std.specs.FinMap.Entries.{same_entries}
-use Rattle.std.proofs.lemmas.Bool.{cases_Bool, false≢true}
-use Rattle.std.proofs.lemmas.Bool.Decides.{nat_tests}
-use Rattle.std.proofs.lemmas.Slice.Eq.{bytes_eq-Decides}
-use Rattle.fx_outside.specs.Path.{Parts, parts, parts_cmp, is_fit}
+use Rattle.fx_folder.proofs.Prelude.{HasFolderOf, Held, all_below, all_bytes, as_nodes, deep_loads, first_refused, folder_entry, is_table_place, linked, table_entry, table_in, table_lines, unless_refused, unlisted, walked, with_table, IsWithinLimits, Loads, MAX_BYTES, MAX_NODES, parts_same, parts_total, Parts, is_fit, parts, parts_cmp, Entry, Tree, file, folder, is_folder_at, is_folder_kind, rest_append, path_eq_same, Nodes, Store, found, rest_of, table_name, lines_of, Bool, List, None, Ok, Option, Some, [], ap, arith, cond, false, inl, inr, length, not, refl, subst, sym, true, ℕ, ◌++◌, ◌+◌, ◌-◌, ◌∙◌, ◌∷◌, ◌≡◌, ◌≤◌, cases_Bool, false≢true, nat_tests, bytes_eq-Decides, tied_itself, find, get, same_entries, option_map_or, eq_by_cmp, is_eq, bytes_eq, nat_lt}
+use Rattle.std.specs.FinMap.{remove, get-remove}
 use Rattle.fx_outside.specs.Tree as host
-use Rattle.fx_outside.specs.Tree.{Tree, Entry, file, folder, is_folder_kind, is_folder_at}
-use Rattle.fx_outside.proofs.Trees.{parts_total, parts_same}
-use Rattle.fx_store.specs.Orders.{path_eq_same}
-use Rattle.fx_store.specs.Whole.{Store, Nodes, IsWhole}
-use Rattle.fx_store.proofs.PathLists.{rest_append}
-use Rattle.fx_table.specs.Places.{table_name, rest_of}
-use Rattle.fx_table.specs.Table.{lines_of}
-use Rattle.fx_table.proofs.Shapes.{found}
+use Rattle.fx_store.specs.Whole.{IsWhole}
 use Rattle.fx_folder.specs.HasFolder.{StandsFor, HasFolder}
-use Rattle.fx_folder.specs.LoadLaws.{IsWithinLimits}
-use Rattle.fx_folder.specs.Loads.{Loads, most_nodes, most_bytes}
-use Rattle.fx_folder.specs.Deep.{Held, all_below, walked, table_in, unlisted, linked, all_bytes, table_lines, with_table, unless_refused, as_nodes, first_refused, deep_loads, table_entry, folder_entry, is_table_place, HasFolderOf}
 use Rattle.fx_folder.proofs.Branches.{find_below}
 use Rattle.fx_folder.proofs.Counted.{none_behind}
-use Rattle.fx_folder.proofs.Loaded.{was_loaded}
+use Rattle.fx_folder.proofs.Loaded.{have_room, was_loaded}
 use Rattle.fx_folder.proofs.RoundTrip.{no_place, folders_are_loaded}
-use Rattle.fx_folder.proofs.Standing.{bare, of_folder, have_room, stays}
+use Rattle.fx_folder.proofs.Standing.{bare, of_folder, stays}
 use Rattle.fx_folder.proofs.Walked.{below_sorted, below_root, find_walked_below}
 use Rattle.fx_folder.proofs.Within.{within_limits}
 
@@ -81,28 +62,28 @@ same_walked tree P = same_entries parts_cmp parts_total parts_same _ _ (below_so
           ∙ sym (find_walked_below tree P n r)
     ]
 
-few_enough : (nodes left : ℕ) (S : Store) → nodes ≤ most_nodes → table_lines nodes left S (Some (file [])) ≡ Ok []
+few_enough : (nodes left : ℕ) (S : Store) → nodes ≤ MAX_NODES → table_lines nodes left S (Some (file [])) ≡ Ok []
 few_enough nodes left S few =
-    let none : nat_lt most_nodes (nodes + 0) ≡ false = grind (arith, nat_tests) in
+    let none : nat_lt MAX_NODES (nodes + 0) ≡ false = grind (arith, nat_tests) in
     let bytes : nat_lt left 0 ≡ false = grind (arith, nat_tests) in
     rw (none, bytes) refl
 
-no_table : (hs : List Held) (nodes : Nodes) → as_nodes (unless_refused (first_refused 1 most_bytes hs) (with_table hs None)) ≡ Ok nodes → as_nodes (unless_refused (first_refused 1 most_bytes hs) (with_table hs (Some (file [])))) ≡ Ok nodes
+no_table : (hs : List Held) (nodes : Nodes) → as_nodes (unless_refused (first_refused 1 MAX_BYTES hs) (with_table hs None)) ≡ Ok nodes → as_nodes (unless_refused (first_refused 1 MAX_BYTES hs) (with_table hs (Some (file [])))) ≡ Ok nodes
 no_table hs nodes is =
     let made = was_loaded hs None nodes is in
-    let room = (have_room 1 most_bytes hs (omega arith) made.none).few in
-    ap (λ r. as_nodes (unless_refused (first_refused 1 most_bytes hs) (linked (unlisted hs) r))) (few_enough (length hs + 1) (most_bytes - all_bytes hs) (found (unlisted hs)) (omega arith)) ∙ is
+    let room = (have_room 1 MAX_BYTES hs (omega arith) made.none).few in
+    ap (λ r. as_nodes (unless_refused (first_refused 1 MAX_BYTES hs) (linked (unlisted hs) r))) (few_enough (length hs + 1) (MAX_BYTES - all_bytes hs) (found (unlisted hs)) (omega arith)) ∙ is
 
 empty_loads : (tree : Tree) (P : Parts) (nodes : Nodes) → get tree (P ++ table_name ∷ []) ≡ Some (file []) → deep_loads (untabled tree P) P ≡ Ok nodes → deep_loads tree P ≡ Ok nodes
 empty_loads tree P nodes empty loads =
     let hs = walked (all_below tree P) in
     let none : table_in (all_below (untabled tree P) P) ≡ None = find_below (untabled tree P) P table_name [] ∙ untabled_there tree P in
     let table : table_in (all_below tree P) ≡ Some (file []) = find_below tree P table_name [] ∙ empty in
-    let without : as_nodes (unless_refused (first_refused 1 most_bytes hs) (with_table hs None)) ≡ Ok nodes =
-    ap (λ l. as_nodes (unless_refused (first_refused 1 most_bytes l) (with_table l None))) (sym (same_walked tree P))
-    ∙ ap (λ o. as_nodes (unless_refused (first_refused 1 most_bytes (walked (all_below (untabled tree P) P))) (with_table (walked (all_below (untabled tree P) P)) o))) (sym none)
+    let without : as_nodes (unless_refused (first_refused 1 MAX_BYTES hs) (with_table hs None)) ≡ Ok nodes =
+    ap (λ l. as_nodes (unless_refused (first_refused 1 MAX_BYTES l) (with_table l None))) (sym (same_walked tree P))
+    ∙ ap (λ o. as_nodes (unless_refused (first_refused 1 MAX_BYTES (walked (all_below (untabled tree P) P))) (with_table (walked (all_below (untabled tree P) P)) o))) (sym none)
     ∙ loads in
-    ap (λ o. as_nodes (unless_refused (first_refused 1 most_bytes hs) (with_table hs o))) table ∙ no_table hs nodes without
+    ap (λ o. as_nodes (unless_refused (first_refused 1 MAX_BYTES hs) (with_table hs o))) table ∙ no_table hs nodes without
 
 -- ---- the two are the same
 

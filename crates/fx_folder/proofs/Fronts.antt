@@ -1,5 +1,5 @@
 -- The first of a filestore's nodes in a host's tree: one after another, and what stands there once the writing ends.
-use Rattle.fx_folder.proofs.Prelude.{◌≡◌, ◌⊎◌, inl, inr, ℕ, Bool, true, false, cond, ◌&&◌, ◌||◌, T, List, [], ◌∷◌, ◌++◌, is_none, is_some, Option, Some, None, IsSome, IsTrue, refl, sym, ◌∙◌, ap, subst, append_assoc, append-nil, Less, is_eq, is_lt, eq_by_cmp, tied_itself, texts_ties, option_map_or, option_or, entries, entries_sorted, get, get-entries, get-insert, insert, find, is_sorted, below_all, find-append, cases_Bool, false≢true, All-head, same_Some, then_greater, then_equal_ties, not_before_itself, above_pushed, same_front, path_is, Node, Dir, path_cmp, is_name, IsName, Nodes, listing_is_dir, rest_is, Parts, parts, parts_cmp, above, is_fit, Tree, Entry, folder, has_folder, is_folder_kind, is_free, is_free_at, both, first, second, is_less, less_test, parts_total, host_entry, rest_of, table_name, lines_of, folder_entry, is_table_place, table_entry, IsReady, IsSaved, IsPartOf, IsPartlySaved, IsFrontOf, entry_or, is_written_before, with_folder, MadePart, IsOpen, with_entry, WrotePart, HasEntries, WroteFront, no_rest, not_at, find_append, root_first, none_if_never}
+use Rattle.fx_folder.proofs.Prelude.{◌≡◌, ◌⊎◌, inl, inr, ℕ, Bool, true, false, cond, ◌&&◌, ◌||◌, T, List, [], ◌∷◌, ◌++◌, is_none, is_some, Option, Some, None, IsSome, IsTrue, refl, sym, ◌∙◌, ap, subst, append_assoc, append-nil, Less, is_eq, is_lt, eq_by_cmp, tied_itself, texts_ties, option_map_or, option_or, entries, entries_sorted, get, get-entries, get-insert, insert, find, is_sorted, below_all, find-append, cases_Bool, false≢true, All-head, same_Some, then_greater, then_equal_ties, not_before_itself, above_pushed, same_front, path_is, Node, Dir, path_cmp, is_name, IsName, Nodes, listing_is_dir, rest_is, Parts, parts, parts_cmp, above, is_fit, Tree, Entry, folder, has_folder, is_folder_kind, is_free, is_free_at, both, first, second, is_less, less_test, parts_total, host_entry, rest_of, table_name, lines_of, folder_entry, is_table_place, table_entry, IsReady, IsSaved, IsPartOf, IsPartlySaved, IsFrontOf, entry_or, is_written_before, with_folder, MadePart, IsOpen, with_entry, WrotePart, HasEntries, WroteFront, no_rest, not_at, find_append, root_first, none_if_never, Out}
 use Rattle.fx_store.specs.Names.{name_cmp}
 use Rattle.fx_store.specs.Whole.{IsWhole}
 use Rattle.fx_outside.specs.Tree as tree
@@ -117,7 +117,7 @@ adds t u v at done path node has none added = record {
     ]
 
 -- what was there before the folder was made
-pub from_old : (t0 t u : Tree) (at : Parts) (there : Bool) (es : List Mapped) → t ≡ with_folder t0 at there → HasEntries t u at es → HasEntries t0 u at es
+pub from_old : (t0 t u : Tree) (at : Parts) (there : Out) (es : List Mapped) → t ≡ with_folder t0 at there → HasEntries t u at es → HasEntries t0 u at es
 from_old t0 t u at there es made has = record {
   outside = λ q miss. has.outside q miss ∙ ap (λ x. get x q) made ∙ beside_folder t0 at there q (not_at at q miss);
   inside = has.inside;
@@ -298,7 +298,7 @@ module _ (nodes : Nodes) (whole : IsWhole (get nodes)) (t u : Tree) (at : Parts)
 
 -- after a refusal a part of the folder stands
 
-pub refused_front : (nodes : Nodes) → IsWhole (get nodes) → (t0 t v : Tree) (at : Parts) (there : Bool) → t ≡ with_folder t0 at there → WroteFront t v at nodes → IsPartlySaved t0 v at nodes
+pub refused_front : (nodes : Nodes) → IsWhole (get nodes) → (t0 t v : Tree) (at : Parts) (there : Out) → t ≡ with_folder t0 at there → WroteFront t v at nodes → IsPartlySaved t0 v at nodes
 refused_front nodes whole t0 t v at there made was = go was.begun
   where
     stays : v ≡ was.before → IsPartlySaved t0 v at nodes
@@ -318,7 +318,7 @@ refused_table nodes whole t u v at has (inl same) =
     inr ([], subst (λ x. IsPartOf t x at nodes []) (sym same) (front_part nodes whole t u at (entries nodes) [] (sym (append-nil (entries nodes))) has []))
 refused_table nodes whole t u v at has (inr some) = inr (table_name ∷ [], table_part nodes whole t u at has v some.0 some.1 some.2 some.3 some.4)
 
-pub refused_folder : (nodes : Nodes) → IsWhole (get nodes) → (t u : Tree) (path : List ℕ) (there : Bool) → tree.IsWhole t → IsReady t path there → MadePart t u (parts path) there → IsPartlySaved t u (parts path) nodes
+pub refused_folder : (nodes : Nodes) → IsWhole (get nodes) → (t u : Tree) (path : List ℕ) (there : Out) → tree.IsWhole t → IsReady t path there → MadePart t u (parts path) there → IsPartlySaved t u (parts path) nodes
 refused_folder nodes whole t u path there is can (inl same) = inl same
 refused_folder nodes whole t u path there is can (inr made) =
     let root = root_first nodes whole in

@@ -1,11 +1,14 @@
 -- What was walked, with the links of the table, is what the definition of loading gives.
-use Rattle.fx_folder.proofs.Prelude.{◌≡◌, inl, inr, ℕ, suc, ◌+◌, ◌-◌, ◌<◌, ◌≤◌, Bool, true, false, cond, ◌&&◌, ◌||◌, List, [], ◌∷◌, ◌++◌, map, length, Option, Some, None, Result, Ok, Err, IfOk, IfErr, IfSome, option_map, refl, sym, ◌∙◌, ap, subst, arith, nat_lt, unwrap_or, option_map_or, eq_by_cmp, AllByRecursion, IsStrictlySortedBy, keys_of, get, find, nat_tests, HostKind, Parts, parts, Names, Tree, Entry, Lists, entry_at, is_folder_at, is_file_at, is_file_kind, bytes_at, Global, Vec, some_of, neither_some, loads, AnswersAs, path_below, sorted_test, strictly_sorted, Node, File, Dir, Link, Change, IsChanges, changed_paths, change_at, path_cmp, IsPath, path_eq_same, Store, FolderCause, BadName, Strange, TooLarge, BadTable, LoadFault, Refused, ReadFault, NoMemory, Loader, Held, all_below, walked, table_in, all_bytes, first_refused, refused_entry, node_of_kind, unlisted, most_in_table, unless_bad, lacking, lines_or_cause, table_file_lines, linked, with_table, unless_refused, loaded, as_nodes, Mapped, listed, with_flag, with_flags, with_lines, place_of, table_name, IsFoundNode, HasDir, IsFoundChange, AreFoundChanges, most_nodes, most_bytes, IsOfBytes, AreOfBytes, IsNodeBounded, IsTreeShaped, change_of, changes_of, AreShaped, lines_in, standing_by, AreLines, link_bytes, is_over, ReadsAll, LinesCause, mapped_of, node_or_dir, CanMerge, exceed_limits, HasBadLine, IsLineCause, TableLink, IsTable, over, links_among, lacks_flags, read_body, BeginsWith, IsFirstBadLine, ReadsWhole, table_text_or_cause, AnswersText, room_behind, IsJoined, AnswersFound, HasTable, items_in, found_as, AnswersWalk, bytes_flags, lines_made, lines_merge, IsLinked, set_at, mapped_changes, found, body_read, lacks_none, bytes_linked}
+use Rattle.fx_folder.proofs.Prelude.{some_of, Held, all_below, all_bytes, as_nodes, lacking, lines_or_cause, linked, loaded, node_of_kind, table_file_lines, table_in, unless_refused, unlisted, walked, with_table, AreFoundChanges, HasDir, IsFoundChange, IsFoundNode, AnswersAs, loads, IsReadAt, path_below, HasBadLine, IsLineCause, exceed_limits, AnswersFound, AnswersText, HasTable, IsJoined, items_in, room_behind, table_text_or_cause, AnswersWalk, found_as, Loader, sorted_test, strictly_sorted, Names, Parts, parts, Entry, Lists, Tree, bytes_at, entry_at, is_file_at, is_file_kind, is_folder_at, HostKind, IsChanges, change_at, changed_paths, IsPath, path_cmp, path_eq_same, Store, Change, Node, Dir, File, Link, bytes_flags, lines_made, lines_merge, IsLinked, set_at, mapped_changes, bytes_linked, found, body_read, lacks_none, AreLines, LinesCause, ReadsAll, is_over, lines_in, link_bytes, standing_by, Mapped, listed, with_flag, with_flags, with_lines, mapped_of, node_or_dir, CanMerge, place_of, table_name, AreOfBytes, AreShaped, IsNodeBounded, IsOfBytes, IsTreeShaped, change_of, changes_of, IsTable, TableLink, lacks_flags, links_among, over, read_body, BeginsWith, IsFirstBadLine, FolderCause, BadName, BadTable, Strange, TooLarge, LoadFault, NoMemory, ReadFault, Refused, Bool, Err, IfErr, IfOk, IfSome, List, None, Ok, Option, Result, Some, [], ap, arith, cond, false, inl, inr, length, map, option_map, refl, subst, sym, true, ℕ, ◌++◌, ◌+◌, ◌-◌, ◌<◌, ◌||◌, ◌∙◌, ◌∷◌, ◌≡◌, ◌≤◌, nat_tests, find, get, Global, AllByRecursion, IsStrictlySortedBy, keys_of, option_map_or, eq_by_cmp, Vec, nat_lt, unwrap_or, MAX_BYTES, MAX_NODES, MAX_TABLE}
+use Rattle.std.proofs.lemmas.List.{length-map}
+use Rattle.std.proofs.lemmas.Option.{IfSome_then}
 use Rattle.fx_base.proofs.Lists.{same_heads}
 use Rattle.fx_outside.specs.declared.kind.HostKind.TheVariants as kind
 use Rattle.fx_folder.proofs.Below.{folder_fit}
 use Rattle.fx_folder.proofs.Texts.{parts_table, fit_table}
 use Rattle.fx_folder.proofs.Branches.{find_below}
-use Rattle.fx_folder.proofs.Refusals.{same_first, fits_all}
+use Rattle.fx_folder.proofs.Counted.{not_above, is_below}
+use Rattle.fx_folder.proofs.Loaded.{HaveRoom, have_room}
 use Rattle.fx_folder.proofs.TableRefusals.{lines_refused, same_many}
 
 -- ---- what was found has a shape
@@ -131,26 +134,6 @@ mapped_walked : (hs : List Held) → mapped_of (map found_as hs) ≡ map (λ (h 
 mapped_walked [] = refl
 mapped_walked (h ∷ hs) = ap (λ l. (h.0, node_of_kind h.1.kind h.1.bytes) ∷ l) (mapped_walked hs)
 
-length_mapped : (hs : List Held) → length (map found_as hs) ≡ length hs
-length_mapped [] = refl
-length_mapped (h ∷ hs) = ap suc (length_mapped hs)
-
-passes : (a b c : Bool) (o : Option FolderCause) (x y : FolderCause) → cond a (cond (b && c) o (Some x)) (Some y) ≡ None → c ≡ true
-passes true true true o x y e = refl
-passes true true false o x y e = cc
-passes true false c o x y e = cc
-passes false b c o x y e = cc
-
-below : (n : ℕ) → nat_lt n most_nodes ≡ true → n < most_nodes
-below n e = grind (arith, nat_tests)
-
-few_nodes : (nodes left : ℕ) (hs : List Held) → nodes ≤ most_nodes → first_refused nodes left hs ≡ None → nodes + length hs ≤ most_nodes
-few_nodes nodes left [] le none = omega (arith, le)
-few_nodes nodes left (h ∷ hs) le none =
-    let two = neither_some (refused_entry nodes left h) (first_refused (nodes + 1) (left - length h.1.bytes) hs) none in
-    let lt = below nodes (passes _ _ (nat_lt nodes most_nodes) _ _ _ two.0) in
-    omega (arith, few_nodes (nodes + 1) (left - length h.1.bytes) hs (omega (arith, lt)) two.1)
-
 -- without lines no file is executable, as none was found to be
 unflagged : (p : Parts) (k : HostKind) (bytes : List ℕ) → with_flag [] (p, node_of_kind k bytes) ≡ (p, node_of_kind k bytes)
 unflagged p kind.File bytes = refl
@@ -175,13 +158,10 @@ module _ (t : Tree) (at : Parts) (w : Loader) (are : AreFoundChanges w.found.ite
   unlisted_is = ap mapped_of walk.1 ∙ ap (λ l. ([], Dir []) ∷ l) (mapped_walked hs)
 
   count : length cs ≡ length hs + 1
-  count = ap length walk.1 ∙ (let n = length_mapped hs in omega (arith, n))
+  count = ap length walk.1 ∙ (let n = length-map hs found_as in omega (arith, n))
 
-  few : length hs + 1 ≤ most_nodes
-  few = let n = few_nodes 1 most_bytes hs (omega arith) walk.0 in omega (arith, n)
-
-  fits : all_bytes hs ≤ most_bytes
-  fits = fits_all [] hs (omega arith) (sym (same_first [] hs (omega arith)) ∙ walk.0)
+  room : HaveRoom 1 MAX_BYTES hs
+  room = have_room 1 MAX_BYTES hs (omega arith) walk.0
 
   abbrev ground : Store
   ground = standing_by cs
@@ -192,23 +172,23 @@ module _ (t : Tree) (at : Parts) (w : Loader) (are : AreFoundChanges w.found.ite
   same_ground : ground ≡ U
   same_ground = λ i q. (stands cs are q ∙ ap (λ l. found l q) unlisted_is) i
 
-  over_count : (n k : ℕ) → n ≤ most_nodes → nat_lt (most_nodes - n) k ≡ nat_lt most_nodes (n + k)
+  over_count : (n k : ℕ) → n ≤ MAX_NODES → nat_lt (MAX_NODES - n) k ≡ nat_lt MAX_NODES (n + k)
   over_count n k le = grind (arith, nat_tests)
 
   over_is : (ls : List TableLink) → is_over (room_behind cs w.left) ls ≡ exceed_limits hs ls
   over_is ls =
-      ap (λ b. b || nat_lt w.left (link_bytes ls)) (ap (λ n. nat_lt (most_nodes - n) (length ls)) count ∙ over_count (length hs + 1) (length ls) few)
-      ∙ (ap (λ n. nat_lt most_nodes (length hs + 1 + length ls) || nat_lt n (link_bytes ls)) walk.2 ∙ same_many hs fits ls)
+      ap (λ b. b || nat_lt w.left (link_bytes ls)) (ap (λ n. nat_lt (MAX_NODES - n) (length ls)) count ∙ over_count (length hs + 1) (length ls) (omega (arith, room.few)))
+      ∙ (ap (λ n. nat_lt MAX_NODES (length hs + 1 + length ls) || nat_lt n (link_bytes ls)) walk.2 ∙ same_many hs room.fit ls)
 
   -- the table's text is read
-  lines_read : (text : List ℕ) (lines : List Change) → ReadsAll ground (room_behind cs w.left) text lines → lines_or_cause (length hs + 1) (most_bytes - all_bytes hs) U text (read_body U text) ≡ Ok (lines_in lines)
+  lines_read : (text : List ℕ) (lines : List Change) → ReadsAll ground (room_behind cs w.left) text lines → lines_or_cause (length hs + 1) (MAX_BYTES - all_bytes hs) U text (read_body U text) ≡ Ok (lines_in lines)
   lines_read text lines reads =
       let said = lines_in lines in
       let read : read_body U text ≡ Ok said = ap (read_body U) reads.whole ∙ body_read U said (subst (λ F. IsTable F said) same_ground reads.are.table) in
       let lacks : lacks_flags text said ≡ false = ap (λ t. lacks_flags t said) reads.whole ∙ lacks_none said in
-      ap (lines_or_cause (length hs + 1) (most_bytes - all_bytes hs) U text) read
-      ∙ (ap (λ b. cond b (Err (TooLarge (place_of (table_name ∷ [])))) (unless_bad said (lacking text said))) (same_many hs fits (links_among said) ∙ (sym (over_is (links_among said)) ∙ reads.few))
-      ∙ ap (λ l. unless_bad said (cond l (Some (BadTable 1)) None)) lacks)
+      ap (lines_or_cause (length hs + 1) (MAX_BYTES - all_bytes hs) U text) read
+      ∙ (ap (λ b. cond b (Err (TooLarge (place_of (table_name ∷ [])))) (unless_refused (lacking text said) (Ok said))) (same_many hs room.fit (links_among said) ∙ (sym (over_is (links_among said)) ∙ reads.few))
+      ∙ ap (λ l. unless_refused (cond l (Some (BadTable 1)) None) (Ok said)) lacks)
 
   cause_of : (text : List ℕ) (cause : FolderCause) → LinesCause ground (room_behind cs w.left) text (Refused cause) → IsLineCause U hs text cause
   cause_of text (BadName place) why = absurd why
@@ -247,13 +227,13 @@ module _ (t : Tree) (at : Parts) (w : Loader) (are : AreFoundChanges w.found.ite
     nodes = length hs + 1
 
     abbrev left : ℕ
-    left = most_bytes - all_bytes hs
+    left = MAX_BYTES - all_bytes hs
 
     whole_is : loaded (all_below t at) ≡ linked (unlisted hs) (table_file_lines nodes left U e.kind e.bytes)
     whole_is = loaded_is (Some e) (table_is ∙ there)
 
     text_lines : (k : HostKind) (contents text : List ℕ) → table_text_or_cause k contents ≡ Ok text → table_file_lines nodes left U k contents ≡ lines_or_cause nodes left U text (read_body U text)
-    text_lines kind.File contents text is = by (nat_lt most_in_table (length contents)) is
+    text_lines kind.File contents text is = by (nat_lt MAX_TABLE (length contents)) is
       where
         by : (b : Bool) → cond b (Err (TooLarge (place_of (table_name ∷ [])))) (Ok contents) ≡ Ok text → cond b (Err (TooLarge (place_of (table_name ∷ [])))) (lines_or_cause nodes left U contents (read_body U contents)) ≡ lines_or_cause nodes left U text (read_body U text)
         by true is = cc
@@ -262,7 +242,7 @@ module _ (t : Tree) (at : Parts) (w : Loader) (are : AreFoundChanges w.found.ite
     text_lines kind.Other contents text is = cc
 
     text_cause : (k : HostKind) (contents : List ℕ) (cause : FolderCause) → table_text_or_cause k contents ≡ Err cause → table_file_lines nodes left U k contents ≡ Err cause
-    text_cause kind.File contents cause is = by (nat_lt most_in_table (length contents)) is
+    text_cause kind.File contents cause is = by (nat_lt MAX_TABLE (length contents)) is
       where
         by : (b : Bool) → cond b (Err (TooLarge (place_of (table_name ∷ [])))) (Ok contents) ≡ Err cause → cond b (Err (TooLarge (place_of (table_name ∷ [])))) (lines_or_cause nodes left U contents (read_body U contents)) ≡ Err cause
         by true is = cc
@@ -280,7 +260,7 @@ module _ (t : Tree) (at : Parts) (w : Loader) (are : AreFoundChanges w.found.ite
 
     pub answers_stopped : (text : List ℕ) (cause : FolderCause) → table_text_or_cause e.kind e.bytes ≡ Ok text → LinesCause ground (room_behind cs w.left) text (Refused cause) → loaded (all_below t at) ≡ Err cause
     answers_stopped text cause is why =
-        whole_is ∙ ap (linked (unlisted hs)) (text_lines e.kind e.bytes text is ∙ lines_refused hs fits U text cause (cause_of text cause why))
+        whole_is ∙ ap (linked (unlisted hs)) (text_lines e.kind e.bytes text is ∙ lines_refused hs room.fit U text cause (cause_of text cause why))
 
 -- ---- for a host that may tell its tree
 
@@ -352,24 +332,20 @@ cause_told (Some t) folder (Refused cause) answer = λ here. ap as_nodes answer
 cause_told (Some t) folder ReadFault answer = λ here. tt
 cause_told (Some t) folder NoMemory answer = λ here. tt
 
-pub file_is : (told : Option Tree) (p q : List ℕ) → q ≡ p → IfSome told (λ t. is_file_at t p ≡ true) → IfSome told (λ t. is_file_at t q ≡ true)
-file_is told p q same is = subst (λ r. IfSome told (λ t. is_file_at t r ≡ true)) (sym same) is
+pub text_read : (told : Option Tree) (p q : List ℕ) (text : List ℕ) → q ≡ p → length text ≤ MAX_TABLE → IfSome told (λ t. IsReadAt t q MAX_TABLE text) → IfSome told (λ t. AnswersText (table_text_or_cause kind.File (bytes_at t p)) (Ok text))
+text_read told p q text same short reads =
+    IfSome_then told reads (λ t read.
+    subst (λ r. table_text_or_cause kind.File (bytes_at t r) ≡ Ok text) same
+    (ap (table_text_or_cause kind.File) (sym (read.whole short)) ∙ ap (λ b. cond b (Err (TooLarge (place_of (table_name ∷ [])))) (Ok text)) (not_above (length text) MAX_TABLE short)))
 
-not_above : (n m : ℕ) → n ≤ m → nat_lt m n ≡ false
-not_above n m le = grind (arith, nat_tests)
-
-is_above : (n m : ℕ) → m < n → nat_lt m n ≡ true
-is_above n m lt = grind (arith, nat_tests)
-
-pub text_read : (told : Option Tree) (p q : List ℕ) (text : List ℕ) → q ≡ p → IfSome told (λ t. ReadsWhole most_in_table (bytes_at t q) (Some text)) → IfSome told (λ t. AnswersText (table_text_or_cause kind.File (bytes_at t p)) (Ok text))
-text_read None p q text same reads = tt
-text_read (Some t) p q text same reads =
-    let short = not_above (length (bytes_at t q)) most_in_table reads.0 in
-    subst (λ r. table_text_or_cause kind.File (bytes_at t r) ≡ Ok text) same (ap (λ b. cond b (Err (TooLarge (place_of (table_name ∷ [])))) (Ok (bytes_at t q))) short ∙ ap Ok (sym reads.1))
+pub text_large : (told : Option Tree) (p q : List ℕ) (text : List ℕ) → q ≡ p → MAX_TABLE < length text → IfSome told (λ t. IsReadAt t q MAX_TABLE text) → IfSome told (λ t. table_text_or_cause kind.File (bytes_at t p) ≡ Err (TooLarge (place_of (table_name ∷ []))))
+text_large told p q text same large reads =
+    IfSome_then told reads (λ t read.
+    subst (λ r. table_text_or_cause kind.File (bytes_at t r) ≡ Err (TooLarge (place_of (table_name ∷ [])))) same
+    (ap (λ b. cond b (Err (TooLarge (place_of (table_name ∷ [])))) (Ok (bytes_at t q))) (is_below MAX_TABLE (length (bytes_at t q)) (omega (arith, large, read.within)))))
 
 pub text_of_file : (told : Option Tree) (p : List ℕ) (k : HostKind) (r : Result (List ℕ) LoadFault) → k ≡ kind.File → IfSome told (λ t. AnswersText (table_text_or_cause kind.File (bytes_at t p)) r) → IfSome told (λ t. AnswersText (table_text_or_cause k (bytes_at t p)) r)
 text_of_file told p k r is answer = subst (λ x. IfSome told (λ t. AnswersText (table_text_or_cause x (bytes_at t p)) r)) (sym is) answer
 
 pub lists_told : (told : Option Tree) (folder : List ℕ) (names : Names) → IfSome told (λ t. (is_folder_at t folder ≡ true) × Lists t (parts folder) names) → IfSome told (λ t. Lists t (parts folder) names)
-lists_told None folder names lists = tt
-lists_told (Some t) folder names lists = lists.1
+lists_told told folder names lists = IfSome_then told lists (λ t is. is.1)

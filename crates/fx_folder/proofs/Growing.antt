@@ -1,6 +1,7 @@
 -- A walk grows a tree, entry by entry in the order of paths.
-use Rattle.fx_folder.proofs.Prelude.{◌≡◌, ◌⊎◌, inl, inr, ℕ, ◌-◌, Bool, true, false, cond, T, List, [], ◌∷◌, ◌++◌, length, take, Option, Some, None, Result, Ok, Err, IfOk, OnOk, refl, sym, ◌∙◌, ap, subst, arith, append_assoc, append-nil, Ordering, Less, Equal, Greater, is_eq, is_lt, eq_by_cmp, ordering_then, AllByRecursion, keys_of, empty, entries, entries_sorted, find, is_sorted, below_all, false≢true, All-nil, all_front, all_end, all_both, path_itself, not_before_itself, same_front, path_is, above_pushed, HostKind, Names, name_cmp, Parts, first, second, is_less, parts_total, in_folder_cmp, entries_none, Dir, Change, path_cmp, IsPath, IsName, rest_is, Item, rest_of, Mapped, mapped_of, node_or_dir, is_dir, LoadFault, item, item_path, items_of, in_table, root_found, AddsItems, Tree, IsFoundNode, HasDir, IsFoundChange, AreFoundChanges, paths_ahead, IsGrown, FindsItem, none_if_never}
+use Rattle.fx_folder.proofs.Prelude.{all_both, all_end, all_front, above_pushed, not_before_itself, path_is, path_itself, same_front, none_if_never, in_table, AreFoundChanges, FindsItem, HasDir, IsFoundChange, IsFoundNode, IsGrown, paths_ahead, AddsItems, item, item_path, items_of, root_found, Item, first, is_less, second, entries_none, in_folder_cmp, parts_total, Names, name_cmp, Parts, Tree, HostKind, rest_is, IsName, IsPath, path_cmp, Change, Dir, Mapped, mapped_of, node_or_dir, rest_of, is_dir, LoadFault, Bool, Err, IfOk, List, None, Ok, OnOk, Option, Result, Some, T, [], ap, append-nil, append_assoc, arith, cond, false, inl, inr, length, refl, subst, sym, take, true, ℕ, ◌++◌, ◌-◌, ◌∙◌, ◌∷◌, ◌≡◌, ◌⊎◌, false≢true, map-append, All-nil, empty, entries, entries_sorted, find, is_sorted, below_all, AllByRecursion, keys_of, eq_by_cmp, is_eq, is_lt, ordering_then, Ordering, Equal, Greater, Less}
 use Rattle.std.specs.List.Sorted.{IsStrictlySortedBy}
+use Rattle.fx_base.proofs.Lists.{all_push}
 use Rattle.fx_folder.proofs.Ordered.{last_of}
 use Rattle.fx_folder.proofs.Ways.{root_pushed}
 
@@ -10,8 +11,7 @@ AllAbove p ks = AllByRecursion (λ q. path_cmp p q ≡ Less) ks
 -- ---- one entry more
 
 mapped_append : (cs ds : List Change) → mapped_of (cs ++ ds) ≡ mapped_of cs ++ mapped_of ds
-mapped_append [] ds = refl
-mapped_append (c ∷ cs) ds = ap (λ l. (c.path, node_or_dir c.node) ∷ l) (mapped_append cs ds)
+mapped_append cs ds = map-append (λ (c : Change). (c.path, node_or_dir c.node)) cs ds
 
 keys_append : (es fs : List Mapped) → keys_of (es ++ fs) ≡ keys_of es ++ keys_of fs
 keys_append [] fs = refl
@@ -34,10 +34,6 @@ found_more cs ds c is = record { path = is.path; node = is.node; above = λ path
 each_more : (cs ds es : List Change) → AllByRecursion (IsFoundChange (mapped_of cs)) es → AllByRecursion (IsFoundChange (mapped_of (cs ++ ds))) es
 each_more cs ds [] all = tt
 each_more cs ds (c ∷ es) all = (found_more cs ds c all.0, each_more cs ds es all.1)
-
-each_push : (es : List Mapped) (cs : List Change) (c : Change) → AllByRecursion (IsFoundChange es) cs → IsFoundChange es c → AllByRecursion (IsFoundChange es) (cs ++ c ∷ [])
-each_push es [] c all one = (one, tt)
-each_push es (d ∷ cs) c all one = (all.0, each_push es cs c all.1 one)
 
 -- ---- the paths ahead
 
@@ -255,7 +251,7 @@ module _ (found : List Change) (todo todo' : List Item) (x : Item) (c : Change) 
   pub grows : IsGrown (found ++ c ∷ []) todo'
   grows = record {
     root = dir_more found (c ∷ []) [] was.root;
-    each = each_push (mapped_of (found ++ c ∷ [])) found c (each_more found (c ∷ []) found was.each) is_found;
+    each = all_push (IsFoundChange (mapped_of (found ++ c ∷ []))) found c (each_more found (c ∷ []) found was.each) is_found;
     ascending = ascends_more;
     stand = subst (AllByRecursion (λ (y : Item). HasDir (mapped_of (found ++ c ∷ [])) y.parent)) (sym finds.more)
         (all_both (λ (y : Item). HasDir (mapped_of (found ++ c ∷ [])) y.parent) todo (items_of c.path (entries finds.names)) (stand_more found (c ∷ []) todo stand) (stand_new (mapped_of (found ++ c ∷ [])) c.path (entries finds.names) opened));

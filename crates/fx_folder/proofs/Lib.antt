@@ -20,8 +20,10 @@ pub mod Reading
 pub mod Refusals
 pub mod RoundTrip
 pub mod Standing
+pub mod TableRead
 pub mod TableRefusals
 pub mod Texts
+pub mod Told
 pub mod Walked
 pub mod Ways
 pub mod Within

@@ -1,5 +1,5 @@
 -- What a folder's listing says of it.
-use Rattle.fx_folder.proofs.Prelude.{◌≡◌, inr, ℕ, true, cond, List, [], ◌∷◌, ◌++◌, length, Option, Some, None, option_map, IfSome, refl, sym, ◌∙◌, ap, is_eq, tied_itself, nat_list_cmp_total, get, len, entries, find, get-entries, get-empty, empty_of_len, len-entries, HostKind, Names, name_cmp, parts, Tree, Entry, Lists, entry_at, is_folder_at, IsReady, IsTaken}
+use Rattle.fx_folder.proofs.Prelude.{Empty, IsReady, IsTaken, Names, name_cmp, parts, Entry, Lists, Tree, entry_at, is_folder_at, HostKind, IfSome, List, None, Option, Some, [], ap, cond, inr, length, option_map, refl, sym, true, ℕ, ◌++◌, ◌∙◌, ◌∷◌, ◌≡◌, tied_itself, nat_list_cmp_total, empty_of_len, entries, find, get, get-empty, get-entries, len, len-entries, is_eq}
 use Rattle.fx_folder.proofs.Filled.{stands}
 
 nothing_listed : (names : Names) → len names ≡ 0 → (q : List ℕ) → get names q ≡ None
@@ -22,7 +22,7 @@ some_mapped : (o : Option Entry) (kind : HostKind) → Some kind ≡ option_map 
 some_mapped None kind e = cc
 some_mapped (Some x) kind e = (x, refl)
 
-pub is_ready : (told : Option Tree) (path : List ℕ) (names : Names) → IfSome told (λ tree. is_folder_at tree path ≡ true) → IfSome told (λ tree. Lists tree (parts path) names) → len names ≡ 0 → IfSome told (λ tree. IsReady tree path true)
+pub is_ready : (told : Option Tree) (path : List ℕ) (names : Names) → IfSome told (λ tree. is_folder_at tree path ≡ true) → IfSome told (λ tree. Lists tree (parts path) names) → len names ≡ 0 → IfSome told (λ tree. IsReady tree path Empty)
 is_ready None path names folder lists none = tt
 is_ready (Some tree) path names folder lists none = (folder, λ name. none_mapped _ (sym (nothing_listed names none name) ∙ lists name))
 

@@ -1,9 +1,10 @@
 -- What a folder is loaded as is a whole filestore.
-use Rattle.fx_folder.proofs.Prelude.{◌≡◌, inl, inr, ℕ, zero, suc, ◌+◌, ◌-◌, ◌<◌, ◌≤◌, Bool, true, false, cond, not, ◌&&◌, T, List, [], ◌∷◌, ◌++◌, map, length, take, Option, Some, None, Result, Ok, Err, is_some, IsSome, IfSome, IsTrue, All, refl, sym, ◌∙◌, ap, subst, arith, append_assoc, length-take, nat_lt, nat_le, bytes_eq, is_lt, eq_by_cmp, option_or, option_map, get, find, is_sorted, from_entries, get-from_entries, below_all, cases_Bool, false≢true, and_parts, or_parts, nat_tests, same_Some, All-nil, All-push, take-length, take-suc, neither_some, some_of, HostKind, parts_cmp, above, Tree, Entry, is_folder_kind, both, first, second, strictly_sorted, Node, File, Dir, Link, path_cmp, is_name, IsName, IsPath, path_total, path_eq_same, Store, Nodes, IsWhole-same, FolderCause, BadTable, most_nodes, most_in_file, most_bytes, Loads, IsRefused, table_name, TableLine, IsLine, IsTable, over, has_place, is_dir, setting_of, first_number, body_of, is_second, read_body, lines_before, links_among, Held, all_below, walked, table_in, last_name, refused_kind, refused_bytes, refused_entry, first_refused, node_of_kind, unlisted, unless_bad, are_too_many, lacking, lines_or_cause, table_file_lines, table_lines, linked, all_bytes, with_table, unless_refused, as_nodes, Mapped, with_lines, listed, LoadsAreWhole, IsOfBytes, AreOfBytes, texts_are_lines, over_all, found, listed_whole, find_listed, relisted, lines_made, IsLinked, chosen_some}
-use Rattle.std.specs.List.Sorted.{IsStrictlySortedBy}
+use Rattle.fx_folder.proofs.Prelude.{chosen_some, neither_some, some_of, Held, all_below, all_bytes, as_nodes, first_refused, last_name, linked, node_of_kind, refused_bytes, refused_entry, refused_kind, table_in, table_lines, unless_refused, unlisted, walked, with_table, LoadsAreWhole, IsRefused, Loads, both, first, second, strictly_sorted, above, parts_cmp, Entry, Tree, is_folder_kind, HostKind, IsWhole-same, IsName, IsPath, is_name, path_cmp, path_eq_same, path_total, Nodes, Node, Dir, File, Link, lines_made, IsLinked, find_listed, found, listed_whole, relisted, Mapped, listed, with_lines, table_name, AreOfBytes, IsOfBytes, is_dir, FolderCause, TableLine, All, Bool, Err, IfSome, IsSome, List, None, Ok, Option, Result, Some, T, [], ap, append_assoc, arith, cond, false, inl, inr, is_some, length, length-take, map, not, option_map, refl, subst, suc, sym, take, true, zero, ℕ, ◌&&◌, ◌++◌, ◌+◌, ◌-◌, ◌<◌, ◌∙◌, ◌∷◌, ◌≡◌, ◌≤◌, take-length, take-suc, and_parts, cases_Bool, false≢true, or_parts, nat_tests, All-nil, All-push, same_Some, find, from_entries, get, get-from_entries, is_sorted, below_all, option_or, eq_by_cmp, is_lt, bytes_eq, nat_le, nat_lt, MAX_BYTES, MAX_NODES, MAX_FILE_BYTES}
 use Rattle.fx_outside.specs.declared.kind.HostKind.TheVariants as kind
 use Rattle.fx_outside.specs.Tree as host
 use Rattle.fx_table.proofs.Shapes.{IsNodeBounded}
+use Rattle.fx_folder.proofs.Counted.{more_bytes, at_most, below}
+use Rattle.fx_folder.proofs.TableRead.{table_of}
 use Rattle.fx_folder.proofs.Walked.{below_sorted, below_root, find_walked_below}
 pub use Rattle.fx_folder.proofs.Filled.{folder_entry_is}
 use Rattle.fx_folder.proofs.Filled.{stands, stands_in}
@@ -18,7 +19,7 @@ pub record IsAccepted (names : Paths) (e : Entry) : Type 0 where
   pub named : is_name (last_name names) ≡ true
   pub short : length names ≤ 64
   pub known : e.kind ≡ kind.Other → ⊥
-  pub small : length e.bytes ≤ most_in_file
+  pub small : length e.bytes ≤ MAX_FILE_BYTES
 
 within : (named room : Bool) (k b : Option FolderCause) (c d : FolderCause) → cond named (cond room (option_or k b) (Some c)) (Some d) ≡ None → record { named : named ≡ true; room : room ≡ true; kind : k ≡ None; bytes : b ≡ None }
 within true true k b c d e = let two = neither_some k b e in record { named = refl; room = refl; kind = two.0; bytes = two.1 }
@@ -34,18 +35,24 @@ unless : (b : Bool) (c : FolderCause) → cond b (Some c) None ≡ None → b �
 unless true c e = cc
 unless false c e = refl
 
-pub is_accepted : (nodes left : ℕ) (names : Paths) (e : Entry) → refused_entry nodes left (names, e) ≡ None → IsAccepted names e
-is_accepted nodes left names e none =
-    let w = within (is_name (last_name names)) (nat_le (length names) 64 && nat_lt nodes most_nodes) (refused_kind names e.kind) (refused_bytes left names e.bytes) _ _ none in
-    let room = and_parts (nat_le (length names) 64) (nat_lt nodes most_nodes) w.room in
-    let bytes = or_parts (nat_lt most_in_file (length e.bytes)) (nat_lt left (length e.bytes)) (unless _ _ w.bytes) in
-    let short : nat_le (length names) 64 ≡ true = room.0 in
-    let small : nat_lt most_in_file (length e.bytes) ≡ false = bytes.0 in
+short_enough : (n : ℕ) → nat_le n 64 ≡ true → n ≤ 64
+short_enough n e = grind (arith, nat_tests)
+
+-- an entry that is not refused is accepted, and there is room for it
+pub record HasPassed (nodes left : ℕ) (names : Paths) (e : Entry) : Type 0 where
+  pub accepted : IsAccepted names e
+  pub room : nodes < MAX_NODES
+  pub fits : length e.bytes ≤ left
+
+pub has_passed : (nodes left : ℕ) (names : Paths) (e : Entry) → refused_entry nodes left (names, e) ≡ None → HasPassed nodes left names e
+has_passed nodes left names e none =
+    let w = within (is_name (last_name names)) (nat_le (length names) 64 && nat_lt nodes MAX_NODES) (refused_kind names e.kind) (refused_bytes left names e.bytes) _ _ none in
+    let room = and_parts (nat_le (length names) 64) (nat_lt nodes MAX_NODES) w.room in
+    let bytes = or_parts (nat_lt MAX_FILE_BYTES (length e.bytes)) (nat_lt left (length e.bytes)) (unless _ _ w.bytes) in
     record {
-      named = w.named;
-      short = grind (arith, nat_tests);
-      known = known_kind names e.kind w.kind;
-      small = grind (arith, nat_tests);
+      accepted = record { named = w.named; short = short_enough (length names) room.0; known = known_kind names e.kind w.kind; small = at_most (length e.bytes) MAX_FILE_BYTES bytes.0 };
+      room = below nodes MAX_NODES room.1;
+      fits = at_most (length e.bytes) left bytes.1;
     }
 
 pub all_accepted : (nodes left : ℕ) (hs : List Held) → first_refused nodes left hs ≡ None → (q : Paths) (e : Entry) → find parts_cmp q hs ≡ Some e → IsAccepted q e
@@ -55,9 +62,22 @@ all_accepted nodes left ((names, x) ∷ hs) none q e is =
     elim (cases_Bool (eq_by_cmp parts_cmp q names)) [
       | inl same ↦
           let it : x ≡ e = same_Some x e (sym (ap (λ b. cond b (Some x) (find parts_cmp q hs)) same) ∙ is) in
-          subst (λ p. IsAccepted p e) (sym (path_eq_same q names same)) (subst (IsAccepted names) it (is_accepted nodes left names x two.0))
+          subst (λ p. IsAccepted p e) (sym (path_eq_same q names same)) (subst (IsAccepted names) it (has_passed nodes left names x two.0).accepted)
       | inr other ↦ all_accepted (nodes + 1) (left - length x.bytes) hs two.1 q e (sym (ap (λ b. cond b (Some x) (find parts_cmp q hs)) other) ∙ is)
     ]
+
+-- there is room for so many nodes, and for all their bytes
+pub record HaveRoom (nodes left : ℕ) (hs : List Held) : Type 0 where
+  pub few : nodes + length hs ≤ MAX_NODES
+  pub fit : all_bytes hs ≤ left
+
+pub have_room : (nodes left : ℕ) (hs : List Held) → nodes ≤ MAX_NODES → first_refused nodes left hs ≡ None → HaveRoom nodes left hs
+have_room nodes left [] few none = record { few = omega (arith, few); fit = omega arith }
+have_room nodes left ((names, e) ∷ hs) few none =
+    let two = neither_some (refused_entry nodes left (names, e)) (first_refused (nodes + 1) (left - length e.bytes) hs) none in
+    let one = has_passed nodes left names e two.0 in
+    let rest = have_room (nodes + 1) (left - length e.bytes) hs (omega (arith, one.room)) two.1 in
+    record { few = omega (arith, rest.few); fit = omega (arith, rest.fit, one.fits, more_bytes (names, e) hs) }
 
 -- ---- files and directories by their paths
 
@@ -113,7 +133,7 @@ module _ (tree : Tree) (whole : host.IsWhole tree) (P : Paths) where
       ∙ ap (option_map node_of) (find_walked_below tree P a p ∙ (ap (λ b. cond b (get tree (P ++ a ∷ p)) None) at.0 ∙ around.1))
       ) ∙ dir_of_folder around.0.kind around.0.bytes around.2
 
-  module _ (none : first_refused 1 most_bytes hs ≡ None) where
+  module _ (none : first_refused 1 MAX_BYTES hs ≡ None) where
     last_off : (p : Paths) → 0 < length p → p ≡ take (length p - 1) p ++ last_name p ∷ []
     last_off p some =
         let n : suc (length p - 1) ≡ length p = omega (arith, some) in
@@ -122,7 +142,7 @@ module _ (tree : Tree) (whole : host.IsWhole tree) (P : Paths) where
     accepted_at : (a : List ℕ) (p : Paths) → IsSome (found (unlisted hs) (a ∷ p)) → (e : Entry) × IsAccepted (a ∷ p) e
     accepted_at a p some =
         let there = some_of (find parts_cmp (a ∷ p) hs) (some_mapped node_of _ (sym (ap is_some (find_unlisted hs a p)) ∙ some)) in
-        (there.0, all_accepted 1 most_bytes hs none (a ∷ p) there.0 there.1)
+        (there.0, all_accepted 1 MAX_BYTES hs none (a ∷ p) there.0 there.1)
 
     some_dir : (o : Option Node) → is_dir o ≡ true → is_some o ≡ true
     some_dir None e = e
@@ -157,7 +177,7 @@ module _ (tree : Tree) (whole : host.IsWhole tree) (P : Paths) where
       where
         by : (o : Option Entry) → find parts_cmp (a ∷ p) hs ≡ o → IfSome (option_map node_of o) IsNodeBounded
         by None is = tt
-        by (Some e) is = leaf_of (a ∷ p) e (all_accepted 1 most_bytes hs none (a ∷ p) e is)
+        by (Some e) is = leaf_of (a ∷ p) e (all_accepted 1 MAX_BYTES hs none (a ∷ p) e is)
 
     unlisted_shape : IsLinked (found (unlisted hs)) (unlisted hs)
     unlisted_shape = record {
@@ -166,54 +186,19 @@ module _ (tree : Tree) (whole : host.IsWhole tree) (P : Paths) where
       dirs = λ q. refl;
     }
 
--- ---- the lines are a table, or none
-
-pub no_lines : (S : Store) → IsTable S []
-unfolding IsStrictlySortedBy
-no_lines S = record { valid = All-nil IsLine; stand = All-nil (λ (l : TableLine). IsTrue (has_place (over S true) l)); ascending = (tt, tt) }
-
-not_bad : (b : Bool) (c : FolderCause) (bad : Option FolderCause) (lines made : List TableLine) → cond b (Err c) (unless_bad lines bad) ≡ Ok made → lines ≡ made
-not_bad true c bad lines made e = cc
-not_bad false c None lines made e = cc
-not_bad false c (Some d) lines made e = cc
-
-pub some_bad : (b : Bool) (c d : FolderCause) (lines made : List TableLine) → cond b (Err c) (unless_bad lines (Some d)) ≡ Ok made → ⊥
-some_bad true c d lines made e = cc
-some_bad false c d lines made e = cc
-
-read_made : (nodes left : ℕ) (S : Store) (text : List ℕ) (r : Result (List TableLine) ℕ) (lines : List TableLine) → read_body S text ≡ r → lines_or_cause nodes left S text r ≡ Ok lines → IsTable S lines
-read_made nodes left S text (Ok found) lines is e =
-    let same : found ≡ lines = not_bad (are_too_many nodes left (links_among found)) _ (lacking text found) found lines e in
-    let spells = texts_are_lines (setting_of S text) (first_number text) (body_of text) found is in
-    subst (IsTable S) same (over_all S found (is_second text) spells.table)
-read_made nodes left S text (Err number) lines is e = absurd (some_bad (are_too_many nodes left (links_among (lines_before S text number))) _ (BadTable number) (lines_before S text number) lines e)
-
-pub unless_large : (b : Bool) (c : FolderCause) (r : Result (List TableLine) FolderCause) (lines : List TableLine) → cond b (Err c) r ≡ Ok lines → r ≡ Ok lines
-unless_large true c r lines e = cc
-unless_large false c r lines e = e
-
-file_made : (nodes left : ℕ) (S : Store) (k : HostKind) (text : List ℕ) (lines : List TableLine) → table_file_lines nodes left S k text ≡ Ok lines → IsTable S lines
-file_made nodes left S kind.File text lines e = read_made nodes left S text (read_body S text) lines refl (unless_large _ _ (lines_or_cause nodes left S text (read_body S text)) lines e)
-file_made nodes left S kind.Folder text lines e = cc
-file_made nodes left S kind.Other text lines e = cc
-
-table_made : (nodes left : ℕ) (S : Store) (table : Option Entry) (lines : List TableLine) → table_lines nodes left S table ≡ Ok lines → IsTable S lines
-table_made nodes left S None lines e = let same : [] ≡ lines = cc in subst (IsTable S) same (no_lines S)
-table_made nodes left S (Some e) lines is = file_made nodes left S e.kind e.bytes lines is
-
 -- ---- what was loaded
 
 -- the lines of a table that is read, and what the entries are with them
 pub record IsLoaded (hs : List Held) (table : Option Entry) (nodes : Nodes) : Type 0 where
-  pub none : first_refused 1 most_bytes hs ≡ None
+  pub none : first_refused 1 MAX_BYTES hs ≡ None
   pub lines : List TableLine
-  pub read : table_lines (length hs + 1) (most_bytes - all_bytes hs) (λ path. find path_cmp path (unlisted hs)) table ≡ Ok lines
+  pub read : table_lines (length hs + 1) (MAX_BYTES - all_bytes hs) (λ path. find path_cmp path (unlisted hs)) table ≡ Ok lines
   pub is : from_entries (listed (with_lines (unlisted hs) lines)) ≡ nodes
 
-pub was_loaded : (hs : List Held) (table : Option Entry) (nodes : Nodes) → as_nodes (unless_refused (first_refused 1 most_bytes hs) (with_table hs table)) ≡ Ok nodes → IsLoaded hs table nodes
-was_loaded hs table nodes e = by (first_refused 1 most_bytes hs) (table_lines (length hs + 1) (most_bytes - all_bytes hs) (λ path. find path_cmp path (unlisted hs)) table) refl refl e
+pub was_loaded : (hs : List Held) (table : Option Entry) (nodes : Nodes) → as_nodes (unless_refused (first_refused 1 MAX_BYTES hs) (with_table hs table)) ≡ Ok nodes → IsLoaded hs table nodes
+was_loaded hs table nodes e = by (first_refused 1 MAX_BYTES hs) (table_lines (length hs + 1) (MAX_BYTES - all_bytes hs) (λ path. find path_cmp path (unlisted hs)) table) refl refl e
   where
-    by : (o : Option FolderCause) (r : Result (List TableLine) FolderCause) → first_refused 1 most_bytes hs ≡ o → table_lines (length hs + 1) (most_bytes - all_bytes hs) (λ path. find path_cmp path (unlisted hs)) table ≡ r → as_nodes (unless_refused o (linked (unlisted hs) r)) ≡ Ok nodes → IsLoaded hs table nodes
+    by : (o : Option FolderCause) (r : Result (List TableLine) FolderCause) → first_refused 1 MAX_BYTES hs ≡ o → table_lines (length hs + 1) (MAX_BYTES - all_bytes hs) (λ path. find path_cmp path (unlisted hs)) table ≡ r → as_nodes (unless_refused o (linked (unlisted hs) r)) ≡ Ok nodes → IsLoaded hs table nodes
     by None (Ok lines) none read e = record { none = none; lines = lines; read = read; is = cc }
     by None (Err cause) none read e = cc
     by (Some cause) r none read e = cc
@@ -228,7 +213,8 @@ pub loads_are_whole : LoadsAreWhole
 loads_are_whole tree whole P nodes is bytes =
     let hs = walked (all_below tree P) in
     let made = was_loaded hs (table_in (all_below tree P)) nodes is in
-    let table = table_made _ _ (found (unlisted hs)) (table_in (all_below tree P)) made.lines made.read in
+    let room = have_room 1 MAX_BYTES hs (omega arith) made.none in
+    let table = (table_of _ _ (found (unlisted hs)) (table_in (all_below tree P)) made.lines (omega (arith, room.few)) made.read).table in
     let es = with_lines (unlisted hs) made.lines in
     let linked = lines_made (found (unlisted hs)) true made.lines table (unlisted hs) (unlisted_shape tree whole P made.none) in
     let same : (q : Paths) → found (listed es) q ≡ get nodes q = λ q. sym (get-from_entries path_total (listed es) q) ∙ ap (λ m. get m q) made.is in

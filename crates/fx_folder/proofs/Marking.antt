@@ -1,43 +1,20 @@
 -- The lines of a filestore that was loaded are those that were read of its table.
-use Rattle.std.proofs.Common.{◌≡◌, ℕ, Bool, true, false, cond, T, List, [], ◌∷◌, map, Option, Some, None, IsTrue, All, is_none, refl, sym, ◌∙◌, ap, subst}
-use Rattle.std.specs.Ordering.{is_lt, eq_by_cmp}
-use Rattle.std.specs.Option.{option_map}
-use Rattle.std.specs.List.{cons_option}
+use Rattle.fx_folder.proofs.Prelude.{Held, node_of_kind, unlisted, parts_cmp, Entry, HostKind, host_entry, both, first, second, sorted_test, path_cmp, path_eq_same, path_same, path_total, parent, Store, Node, Dir, File, Link, find_flags, find_linked, found, relisted, with_exec, Mapped, with_flags, with_lines, with_links, IsTable, can_mark, flag_at, has_place, is_dir, is_file, link_in_line, links_among, over, Mark, Executable, Target, TableLine, All, Bool, IsTrue, List, None, Option, Some, T, [], ap, cond, false, is_none, map, option_map, refl, subst, sym, true, ℕ, ◌∙◌, ◌∷◌, ◌≡◌, and_parts, false≢true, All-head, All-tail, same_Some, find, is_sorted, put, below_all, same_entries, cons_option, keys_of, eq_by_cmp, is_lt}
 use Rattle.std.specs.List.Sorted.{IsStrictlySortedBy}
-use Rattle.std.specs.Map.{keys_of}
-use Rattle.std.specs.FinMap.{find, put, is_sorted}
-use Rattle.std.specs.FinMap.Entries.{below_all, same_entries}
-use Rattle.std.proofs.lemmas.Bool.{false≢true, and_parts}
-use Rattle.std.proofs.lemmas.Option.{same_Some}
-use Rattle.std.proofs.lemmas.List.Elements.{All-head, All-tail}
-use Rattle.fx_outside.proofs.Sorted.{both, first, second, sorted_test}
-use Rattle.fx_store.specs.declared.node.Node.{Node}
-use Rattle.fx_store.specs.declared.node.Node.TheVariants.{File, Dir, Link}
-use Rattle.fx_store.specs.Names.{path_cmp}
-use Rattle.fx_store.specs.Orders.{path_total, path_same, path_eq_same}
-use Rattle.fx_store.specs.Resolve.{parent}
-use Rattle.fx_store.specs.Whole.{Store}
-use Rattle.fx_table.specs.Flags.{with_exec}
-use Rattle.fx_table.specs.Listed.{Mapped, with_links, with_flags, with_lines}
-use Rattle.fx_table.specs.declared.line.Mark.{Mark}
-use Rattle.fx_table.specs.declared.line.Mark.TheVariants.{Target, Executable}
-use Rattle.fx_table.specs.declared.line.TableLine.{TableLine}
-use Rattle.fx_table.specs.Table.{is_flag_mark, flag_at, is_dir, is_file, over, can_mark, has_place, links_among, link_in_line, IsTable}
-use Rattle.fx_table.proofs.Flagging.{find_flags}
-use Rattle.fx_table.proofs.Linking.{find_linked}
-use Rattle.fx_table.proofs.Shapes.{found, relisted}
-use Rattle.fx_folder.specs.Places.{host_entry}
+use Rattle.fx_outside.specs.declared.kind.HostKind.TheVariants as kind
+use Rattle.fx_table.specs.Table.{is_flag_mark}
 use Rattle.fx_folder.proofs.Counted.{none_behind, none_again, rest_sorted, lines_in}
+use Rattle.fx_folder.proofs.Loaded.{node_of, find_unlisted}
 
 abbrev Paths : Type 0
 Paths = List (List ℕ)
 
 -- ---- lines as paths with marks
 
-abbrev Marked : Type 0
+abbrev pub Marked : Type 0
 Marked = Paths × Mark
 
-abbrev marks : List TableLine → List Marked
+abbrev pub marks : List TableLine → List Marked
 marks lines = map (λ (l : TableLine). (l.path, l.mark)) lines
 
 unmarked : List Marked → List TableLine
@@ -48,7 +25,7 @@ unfolding unmarked
 unmarked_is [] = refl
 unmarked_is (l ∷ lines) = ap (λ ls. l ∷ ls) (unmarked_is lines)
 
-mark_at : List TableLine → Paths → Option Mark
+abbrev pub mark_at : List TableLine → Paths → Option Mark
 mark_at lines q = find path_cmp q (marks lines)
 
 keys_marks : (lines : List TableLine) → keys_of (marks lines) ≡ map (λ (l : TableLine). l.path) lines
@@ -58,7 +35,7 @@ keys_marks (l ∷ lines) = ap (λ ps. l.path ∷ ps) (keys_marks lines)
 -- ---- the marks of nodes
 
 -- what a line says of a node
-abbrev node_mark : Option Node → Option Mark
+abbrev pub node_mark : Option Node → Option Mark
 node_mark None = None
 node_mark (Some (File bytes true)) = Some Executable
 node_mark (Some (File bytes false)) = None
@@ -74,7 +51,7 @@ unmarked_node node true o m is again rest = rest ∙ (ap node_mark (again refl) 
 unmarked_node node false o m is again rest = rest
 
 -- the line of a path says what its node has
-find_marks : (es : List Mapped) → T (is_sorted path_cmp es) → (q : Paths) → find path_cmp q (marks (lines_in es)) ≡ node_mark (found es q)
+pub find_marks : (es : List Mapped) → T (is_sorted path_cmp es) → (q : Paths) → find path_cmp q (marks (lines_in es)) ≡ node_mark (found es q)
 find_marks [] up q = refl
 find_marks ((p, File bytes true) ∷ es) up q =
     marked (File bytes true) Executable (eq_by_cmp path_cmp q p) (found es q) _ refl (find_marks es (rest_sorted p (File bytes true) es up) q)
@@ -102,17 +79,16 @@ marks_sorted ((p, Link text) ∷ es) up = both (below_all path_cmp p (marks (lin
 -- ---- what lines set among nodes
 
 -- a link where a line says so
-linked_by : Option Mark → Option Node → Option Node
+abbrev pub linked_by : Option Mark → Option Node → Option Node
 linked_by None o = o
 linked_by (Some (Target text)) o = Some (Link text)
 linked_by (Some Executable) o = o
 
-flag_by : Option Mark → Bool
+abbrev pub flag_by : Option Mark → Bool
 flag_by None = false
 flag_by (Some mark) = is_flag_mark mark
 
 flag_is : (lines : List TableLine) (q : Paths) → flag_at lines q ≡ flag_by (mark_at lines q)
-unfolding flag_by mark_at
 flag_is [] q = refl
 flag_is (l ∷ lines) q = by (eq_by_cmp path_cmp q l.path) (flag_is lines q)
   where
@@ -121,21 +97,17 @@ flag_is (l ∷ lines) q = by (eq_by_cmp path_cmp q l.path) (flag_is lines q)
     by false rest = rest
 
 link_set : (text : List ℕ) (b : Bool) (m : Option Mark) (o : Option Node) → (b ≡ true → m ≡ None) → linked_by m (cond b (Some (Link text)) o) ≡ linked_by (cond b (Some (Target text)) m) o
-unfolding linked_by
 link_set text true m o again = ap (λ x. linked_by x (Some (Link text))) (again refl)
 link_set text false m o again = refl
 
 flag_passed : (b : Bool) (m : Option Mark) (o : Option Node) → (b ≡ true → m ≡ None) → linked_by m o ≡ linked_by (cond b (Some Executable) m) o
-unfolding linked_by
 flag_passed true m o again = ap (λ x. linked_by x o) (again refl)
 flag_passed false m o again = refl
 
 no_more : (l : TableLine) (lines : List TableLine) → T (is_sorted path_cmp (marks (l ∷ lines))) → (q : Paths) → eq_by_cmp path_cmp q l.path ≡ true → mark_at lines q ≡ None
-unfolding mark_at
 no_more l lines up q same = subst (λ k. find path_cmp k (marks lines) ≡ None) (sym (path_eq_same q l.path same)) (none_behind l.path (marks lines) (first (below_all path_cmp l.path (marks lines)) _ up))
 
 links_set : (lines : List TableLine) → T (is_sorted path_cmp (marks lines)) → (ms : List Mapped) (q : Paths) → found (with_links ms (links_among lines)) q ≡ linked_by (mark_at lines q) (found ms q)
-unfolding linked_by mark_at
 links_set [] up ms q = refl
 links_set (l ∷ lines) up ms q = by l.path l.mark (links_set lines (second (below_all path_cmp l.path (marks lines)) _ up)) (no_more l lines up q)
   where
@@ -152,7 +124,6 @@ abbrev Stands : Store → TableLine → Type 0
 Stands S l = IsTrue (has_place (over S true) l)
 
 can_at : (S : Store) (lines : List TableLine) → All (Stands S) lines → (q : Paths) (mark : Mark) → mark_at lines q ≡ Some mark → can_mark (over S true) q mark ≡ true
-unfolding mark_at
 can_at S [] all q mark is = cc
 can_at S (l ∷ lines) all q mark is = by (eq_by_cmp path_cmp q l.path) refl is (can_at S lines (All-tail (Stands S) l lines all) q mark)
   where
@@ -181,12 +152,26 @@ IsNoLink (Some (File bytes exec)) = Unit {0}
 IsNoLink (Some (Dir names)) = Unit {0}
 IsNoLink (Some (Link text)) = ⊥
 
+no_link : (k : HostKind) (bytes : List ℕ) → IsNoLink (Some (node_of_kind k bytes))
+no_link kind.File bytes = tt
+no_link kind.Folder bytes = tt
+no_link kind.Other bytes = tt
+
+no_links : (o : Option Entry) → IsNoLink (option_map node_of o)
+no_links None = tt
+no_links (Some e) = no_link e.kind e.bytes
+
+-- files and directories alone are walked
+pub unlisted_plain : (hs : List Held) (q : Paths) → IsNoLink (found (unlisted hs) q)
+unlisted_plain hs [] = tt
+unlisted_plain hs (n ∷ r) = subst IsNoLink (sym (find_unlisted hs n r)) (no_links (find parts_cmp (n ∷ r) hs))
+
 -- what stands there once the lines are set
-set_by : Option Mark → Option Node → Option Node
+abbrev pub set_by : Option Mark → Option Node → Option Node
 set_by m o = linked_by m (with_exec (flag_by m) o)
 
 mark_set : (m : Option Mark) (o : Option Node) → Fits m o → IsNoLink o → node_mark (set_by m o) ≡ m
-unfolding set_by linked_by flag_by Fits
+unfolding Fits
 mark_set None None fit plain = refl
 mark_set None (Some (File bytes exec)) fit plain = refl
 mark_set None (Some (Dir names)) fit plain = refl
@@ -198,7 +183,7 @@ mark_set (Some Executable) (Some (Dir names)) fit plain = absurd (false≢true f
 mark_set (Some Executable) (Some (Link text)) fit plain = absurd plain
 
 entry_set : (m : Option Mark) (o : Option Node) → Fits m o → host_entry (set_by m o) ≡ host_entry o
-unfolding set_by linked_by flag_by Fits
+unfolding Fits
 entry_set None None fit = refl
 entry_set None (Some (File bytes exec)) fit = refl
 entry_set None (Some (Dir names)) fit = refl
@@ -232,8 +217,7 @@ module _ (us : List Mapped) (plain : (q : Paths) → IsNoLink (found us q)) (lin
   unfolding IsStrictlySortedBy
   table_sorted = sorted_test path_cmp (marks lines) (subst (IsStrictlySortedBy path_cmp) (sym (keys_marks lines)) table.ascending.1)
 
-  set_at : (q : Paths) → found (with_lines us lines) q ≡ set_by (mark_at lines q) (found us q)
-  unfolding set_by
+  pub set_at : (q : Paths) → found (with_lines us lines) q ≡ set_by (mark_at lines q) (found us q)
   set_at q =
       links_set lines table_sorted (with_flags us lines) q
       ∙ ap (linked_by (mark_at lines q)) (find_flags us lines q ∙ ap (λ f. with_exec f (found us q)) (flag_is lines q))
@@ -246,7 +230,6 @@ module _ (us : List Mapped) (plain : (q : Paths) → IsNoLink (found us q)) (lin
   entry_at q = ap host_entry (set_at q) ∙ entry_set (mark_at lines q) (found us q) (fits_at q)
 
   mark_is : (q : Paths) → node_mark (found (with_lines us lines) q) ≡ find path_cmp q (marks lines)
-  unfolding mark_at
   mark_is q = ap node_mark (set_at q) ∙ mark_set (mark_at lines q) (found us q) (fits_at q) (plain q)
 
   -- the lines of the entries with the names that their directories list are these lines

@@ -1,5 +1,5 @@
 -- Where the entries of a folder of any depth stand for the host, and what each of them is loaded as.
-use Rattle.fx_folder.proofs.Prelude.{◌≡◌, ℕ, ◌==◌, Bool, true, false, not, cond, ◌&&◌, ◌||◌, List, [], ◌∷◌, ◌++◌, map, length, Option, Some, None, option_map, IfSome, IfOk, IfErr, OnOk, Result, Ok, Err, refl, sym, ◌∙◌, ap, subst, append_assoc, arith, nat_le, nat_lt, option_or, option_map_or, list_all, get, entries, find, same_entries, nat_tests, never_both, fifth_true, no_length, none_if_never, HostKind, Names, LetsIn, Parts, parts, is_fit, parts_cmp, is_fit_part, has_no_slash, above, Tree, Entry, IsWhole, Lists, entry_at, is_folder_at, bytes_at, is_folder_kind, is_file_kind, has_folder, parts_total, parts_same, Dir, Change, IsPath, is_name, Item, FolderCause, TooLarge, LoadFault, Refused, ReadFault, NoMemory, most_nodes, most_in_file, path_below, all_below, walked, last_name, refused_kind, refused_bytes, refused_entry, node_of_kind, place_of, item_path, items_of, bytes_in, held_of, below_names, ahead, IsThere, IsEntered, AnswersEntry, AnswersFile, refused_path, IsNoRefusal, size_of}
+use Rattle.fx_folder.proofs.Prelude.{◌≡◌, ℕ, ◌==◌, Bool, true, false, not, cond, ◌&&◌, ◌||◌, List, [], ◌∷◌, ◌++◌, map, length, Option, Some, None, option_map, IfSome, IfOk, IfErr, OnOk, Result, Ok, Err, refl, sym, ◌∙◌, ap, subst, append_assoc, arith, nat_le, nat_lt, option_or, option_map_or, list_all, get, entries, find, same_entries, nat_tests, never_both, fifth_true, no_length, none_if_never, HostKind, Names, LetsIn, Parts, parts, is_fit, parts_cmp, is_fit_part, has_no_slash, above, Tree, Entry, IsWhole, Lists, entry_at, is_folder_at, bytes_at, is_folder_kind, is_file_kind, has_folder, parts_total, parts_same, Dir, Change, IsPath, is_name, Item, FolderCause, TooLarge, LoadFault, Refused, ReadFault, NoMemory, MAX_NODES, MAX_FILE_BYTES, path_below, all_below, walked, last_name, refused_kind, refused_bytes, refused_entry, node_of_kind, place_of, item_path, items_of, bytes_in, held_of, below_names, ahead, IsThere, IsEntered, AnswersEntry, AnswersFile, refused_path, IsNoRefusal, size_of}
 use Rattle.fx_outside.specs.declared.kind.HostKind.TheVariants as kinds
 use Rattle.fx_folder.proofs.Texts.{parts_place, fit_place, lets_place}
 use Rattle.fx_folder.proofs.Below.{folder_fit}
@@ -63,7 +63,7 @@ unknown true false o c d cause e = e
 unknown false b o c d cause e = e
 
 entry_known : (nodes left : ℕ) (p : Parts) (e : Entry) → refused_path nodes p ≡ None → refused_entry nodes left (p, e) ≡ option_or (refused_kind p e.kind) (refused_bytes left p e.bytes)
-entry_known nodes left p e none = known (is_name (last_name p)) (nat_le (length p) 64 && nat_lt nodes most_nodes) _ _ _ none
+entry_known nodes left p e none = known (is_name (last_name p)) (nat_le (length p) 64 && nat_lt nodes MAX_NODES) _ _ _ none
 
 -- ---- what an item is loaded as
 
@@ -95,7 +95,7 @@ folder_bytes t whole q (Some e) is kind =
     no_length e.bytes (ap (λ k. is_file_kind k || length e.bytes == 0) (sym folder) ∙ fifth_is)
 
 no_size : (left : ℕ) (p : Parts) → refused_bytes left p [] ≡ None
-no_size left p = let small : (nat_lt most_in_file 0 || nat_lt left 0) ≡ false = grind (arith, nat_tests) in ap (λ b. cond b (Some (TooLarge (place_of p))) None) small
+no_size left p = let small : (nat_lt MAX_FILE_BYTES 0 || nat_lt left 0) ≡ false = grind (arith, nat_tests) in ap (λ b. cond b (Some (TooLarge (place_of p))) None) small
 
 pub folder_result : (told : Option Tree) → IfSome told IsWhole → (folder text : List ℕ) (path : Parts) (nodes left : ℕ) (x : Item) (r : Result Change LoadFault) → IfSome told (λ t. (is_folder_at t folder ≡ true) × IsThere t (parts folder) x) → refused_path nodes (item_path x) ≡ None → IsPassed folder text path x → x.kind ≡ kinds.Folder → IfOk r (λ change. change ≡ record { path = path; node = Some (Dir []) }) → IfErr r IsNoRefusal → IfSome told (λ t. AnswersEntry nodes left (held_of t (parts folder) x) r)
 folder_result None whole folder text path nodes left x r there none passed kind is cause = tt

@@ -5,23 +5,23 @@ pub use Rattle.fx_base.proofs.Lists.{all_both, all_end, all_front, no_length, no
 pub use Rattle.fx_base.proofs.Names.{above_pushed, not_before_itself, path_is, path_itself, pushed_some, same_front}
 pub use Rattle.fx_base.proofs.Orders.{then_equal_ties, then_greater}
 pub use Rattle.fx_base.proofs.Results.{OnErr-from, chosen_some, neither_some, none_if_never, some_of}
-pub use Rattle.fx_folder.specs.Deep.{HasFolderOf, Held, all_below, all_bytes, are_too_many, as_nodes, deep_loads, first_refused, folder_entry, held_below, inside, is_table_entry, is_table_place, lacking, last_name, limited, lines_or_cause, linked, loaded, most_in_table, node_of_kind, refused_bytes, refused_entry, refused_kind, table_entry, table_file_lines, table_in, table_lines, unless_bad, unless_refused, unlisted, walked, with_table}
+pub use Rattle.fx_folder.specs.Deep.{HasFolderOf, Held, all_below, all_bytes, are_too_many, as_nodes, deep_loads, first_refused, folder_entry, held_below, in_table, inside, is_table_place, lacking, last_name, limited, lines_or_cause, linked, loaded, node_of_kind, refused_bytes, refused_entry, refused_kind, table_entry, table_file_lines, table_in, table_lines, unless_refused, unlisted, walked, with_table}
 pub use Rattle.fx_folder.specs.DeepExamples.{DeepExamples}
-pub use Rattle.fx_folder.specs.Folder.{IfTold, IsFrontOf, IsPartOf, IsPartlySaved, IsReady, IsSaved, IsTaken, entry_or, is_written_before}
+pub use Rattle.fx_folder.specs.Folder.{Absent, Empty, IfTold, IsFrontOf, IsPartOf, IsPartlySaved, IsReady, IsSaved, IsTaken, Out, entry_or, is_written_before}
 pub use Rattle.fx_folder.specs.Grown.{AreFoundChanges, FindsItem, HasDir, IsFoundChange, IsFoundNode, IsGrown, IsWalking, paths_ahead}
 pub use Rattle.fx_folder.specs.LoadLaws.{FoldersAreLoaded, IsWithinLimits, LoadsAreWhole, counted_bytes, sizes_of}
-pub use Rattle.fx_folder.specs.Loads.{AnswersAs, IsRefused, LoadCause, Loads, loads, most_bytes, most_in_file, most_nodes}
+pub use Rattle.fx_folder.specs.Loads.{AnswersAs, IsRefused, LoadCause, Loads, loads}
 pub use Rattle.fx_folder.specs.Places.{host_entry}
-pub use Rattle.fx_folder.specs.Reads.{path_below}
+pub use Rattle.fx_folder.specs.Reads.{IsReadAt, path_below}
 pub use Rattle.fx_folder.specs.RefusalLaws.{EntriesAreListed, FirstCausesAreTold, HasBadLine, HasNoCause, HasTooManyLinks, IsFileCause, IsFirstCause, IsLineCause, IsTableCause, StandsBelow, all_standing, cause_of, exceed_limits, is_one_too_many, is_strange, is_too_much, where_so}
-pub use Rattle.fx_folder.specs.Tables.{AnswersFound, AnswersText, HasTable, IsJoined, ReadsWhole, items_in, room_behind, table_text_or_cause}
-pub use Rattle.fx_folder.specs.Walks.{AddsItems, AnswersEntry, AnswersFile, AnswersWalk, AreThere, IsEntered, IsNoRefusal, IsOnWay, IsThere, WalkCause, ahead, below_names, branch, bytes_in, found_as, held_of, in_table, item, item_path, items_of, refused_path, root_found, size_of}
+pub use Rattle.fx_folder.specs.Tables.{AnswersFound, AnswersText, HasTable, IsJoined, items_in, room_behind, table_text_or_cause}
+pub use Rattle.fx_folder.specs.Walks.{AddsItems, AnswersEntry, AnswersFile, AnswersWalk, AreThere, IsEntered, IsNoRefusal, IsOnWay, IsThere, WalkCause, ahead, below_names, branch, bytes_in, found_as, held_of, item, item_path, items_of, refused_path, root_found, size_of}
 pub use Rattle.fx_folder.specs.Written.{HasEntries, IsOpen, MadePart, PutsAt, PutsIn, WroteFront, WrotePart, file_unless_empty, with_entry, with_folder}
 pub use Rattle.fx_folder.specs.declared.walking.Item.{Item}
 pub use Rattle.fx_folder.specs.declared.walking.Loader.{Loader}
 pub use Rattle.fx_outside.proofs.Sorted.{both, first, is_less, less_test, second, sorted_test, strictly_sorted}
 pub use Rattle.fx_outside.proofs.Trees.{entries_none, in_folder_cmp, name_same, name_total, parts_same, parts_total, true_test}
-pub use Rattle.fx_outside.proofs.Views.{at_then, fault_in, in_below, reads_then, writes_then}
+pub use Rattle.fx_outside.proofs.Views.{at_then, fault_in, in_below, reads_none, reads_then, writes_then}
 pub use Rattle.fx_outside.specs.Host.{AsksAt, AsksIn, FaultIn, HasFailed, HostView, IsIn, LetsIn, ReadsAt, ReadsOnly, WritesIn}
 pub use Rattle.fx_outside.specs.Listing.{Names, name_cmp}
 pub use Rattle.fx_outside.specs.Path.{Parts, above, has_no_slash, is_fit, is_fit_part, parts, parts_cmp}
@@ -102,3 +102,5 @@ pub use Rattle.std.specs.Slice.Iter.{iter_rest}
 pub use Rattle.std.specs.Str.{IsUtf8, is_utf8}
 pub use Rattle.std.specs.declared.cmp.Ordering.{Ordering}
 pub use Rattle.std.specs.declared.cmp.Ordering.TheVariants.{Equal, Greater, Less}
+pub use Rattle.fx_folder.specs.declared.limits.TheConstants.{MAX_BYTES, MAX_NODES, MAX_TABLE}
+pub use Rattle.fx_store.specs.declared.limits.TheConstants.{MAX_FILE_BYTES}

@@ -1,8 +1,9 @@
 -- A folder is refused for the first cause of its entries.
-use Rattle.fx_folder.proofs.Prelude.{◌≡◌, ◌⊎◌, inl, inr, ℕ, ◌+◌, ◌-◌, ◌≤◌, Bool, true, false, cond, not, ◌&&◌, ◌||◌, T, List, [], ◌∷◌, ◌++◌, length, filter, Option, Some, None, Result, Ok, Err, refl, sym, ◌∙◌, ap, subst, arith, append_assoc, append-nil, length-append, nat_lt, nat_le, bytes_eq, Ordering, Less, Equal, Greater, is_lt, is_eq, eq_by_cmp, ordering_reverse, tied_itself, option_or, get, find, is_sorted, below_all, cases_Bool, nat_tests, same_Some, sum_by_push, neither_some, HostKind, Parts, parts_cmp, Tree, Entry, strictly_sorted, first, second, is_less, parts_total, parts_same, is_name, path_eq_same, Store, FolderCause, BadName, Strange, TooLarge, most_nodes, most_in_file, most_bytes, table_name, place_of, TableLine, minus, Held, all_below, table_in, last_name, all_bytes, refused_kind, refused_bytes, refused_entry, first_refused, unlisted, table_lines, linked, unless_refused, as_nodes, deep_loads, StandsBelow, all_standing, is_one_too_many, is_too_much, is_strange, where_so, cause_of, IsFirstCause, HasNoCause, IsTableCause, EntriesAreListed, FirstCausesAreTold, not_before_itself}
+use Rattle.fx_folder.proofs.Prelude.{not_before_itself, neither_some, Held, all_below, all_bytes, as_nodes, deep_loads, first_refused, last_name, linked, refused_bytes, refused_entry, refused_kind, table_in, table_lines, unless_refused, unlisted, EntriesAreListed, FirstCausesAreTold, HasNoCause, IsFirstCause, IsTableCause, StandsBelow, all_standing, cause_of, is_one_too_many, is_strange, where_so, first, is_less, second, strictly_sorted, parts_same, parts_total, Parts, parts_cmp, Entry, Tree, HostKind, is_name, path_eq_same, Store, minus, place_of, table_name, FolderCause, BadName, Strange, TooLarge, TableLine, Bool, Err, List, None, Ok, Option, Result, Some, T, [], ap, append_assoc, arith, cond, false, filter, inl, inr, length, length-append, not, refl, subst, sym, true, ℕ, ◌&&◌, ◌++◌, ◌+◌, ◌-◌, ◌||◌, ◌∙◌, ◌∷◌, ◌≡◌, ◌≤◌, ◌⊎◌, cases_Bool, nat_tests, sum_by_push, same_Some, tied_itself, find, get, is_sorted, below_all, option_or, eq_by_cmp, is_eq, is_lt, ordering_reverse, bytes_eq, nat_le, nat_lt, Ordering, Equal, Greater, Less, MAX_BYTES, MAX_NODES, MAX_FILE_BYTES}
 use Rattle.fx_outside.specs.declared.kind.HostKind.TheVariants as kind
 use Rattle.fx_folder.proofs.Ordered.{none_behind, sorted_end}
 use Rattle.fx_folder.proofs.TableRefusals.{IsCauseOf, table_is, table_refused, over}
+use Rattle.fx_folder.proofs.Loaded.{has_passed, have_room}
 use Rattle.fx_folder.proofs.Walked.{below_sorted, below_root, find_walked_below}
 use Rattle.fx_folder.proofs.Branches.{find_below}
 
@@ -22,36 +23,21 @@ strange_kind names kind.Other = refl
 deeper : (n : ℕ) → not (nat_le n 64) ≡ nat_lt 64 n
 deeper n = grind (arith, nat_tests)
 
-one_more : (n : ℕ) → not (nat_lt (n + 1) most_nodes) ≡ nat_lt most_nodes (n + 2)
+one_more : (n : ℕ) → not (nat_lt (n + 1) MAX_NODES) ≡ nat_lt MAX_NODES (n + 2)
 one_more n = grind (arith, nat_tests)
 
-same_cause : (before : List Held) (names : Parts) (e : Entry) → all_bytes before ≤ most_bytes → refused_entry (length before + 1) (most_bytes - all_bytes before) (names, e) ≡ cause_of before names e
+same_cause : (before : List Held) (names : Parts) (e : Entry) → all_bytes before ≤ MAX_BYTES → refused_entry (length before + 1) (MAX_BYTES - all_bytes before) (names, e) ≡ cause_of before names e
 same_cause before names e fits =
     let place = place_of names in
-    agree (is_name (last_name names)) (nat_le (length names) 64) (nat_lt (length before + 1) most_nodes) (refused_kind names e.kind) (refused_bytes (most_bytes - all_bytes before) names e.bytes) (TooLarge place) (BadName place)
-    ∙ ap (λ b. option_or (where_so (not (is_name (last_name names))) (BadName place)) (option_or (where_so (b || not (nat_lt (length before + 1) most_nodes)) (TooLarge place)) (option_or (refused_kind names e.kind) (refused_bytes (most_bytes - all_bytes before) names e.bytes)))) (deeper (length names))
-    ∙ ap (λ b. option_or (where_so (not (is_name (last_name names))) (BadName place)) (option_or (where_so (nat_lt 64 (length names) || b) (TooLarge place)) (option_or (refused_kind names e.kind) (refused_bytes (most_bytes - all_bytes before) names e.bytes)))) (one_more (length before))
-    ∙ ap (λ o. option_or (where_so (not (is_name (last_name names))) (BadName place)) (option_or (where_so (nat_lt 64 (length names) || is_one_too_many before) (TooLarge place)) (option_or o (refused_bytes (most_bytes - all_bytes before) names e.bytes)))) (strange_kind names e.kind)
-    ∙ ap (λ b. option_or (where_so (not (is_name (last_name names))) (BadName place)) (option_or (where_so (nat_lt 64 (length names) || is_one_too_many before) (TooLarge place)) (option_or (where_so (is_strange e.kind) (Strange place)) (where_so (nat_lt most_in_file (length e.bytes) || b) (TooLarge place))))) (over most_bytes (all_bytes before) (length e.bytes) fits)
+    agree (is_name (last_name names)) (nat_le (length names) 64) (nat_lt (length before + 1) MAX_NODES) (refused_kind names e.kind) (refused_bytes (MAX_BYTES - all_bytes before) names e.bytes) (TooLarge place) (BadName place)
+    ∙ ap (λ b. option_or (where_so (not (is_name (last_name names))) (BadName place)) (option_or (where_so (b || not (nat_lt (length before + 1) MAX_NODES)) (TooLarge place)) (option_or (refused_kind names e.kind) (refused_bytes (MAX_BYTES - all_bytes before) names e.bytes)))) (deeper (length names))
+    ∙ ap (λ b. option_or (where_so (not (is_name (last_name names))) (BadName place)) (option_or (where_so (nat_lt 64 (length names) || b) (TooLarge place)) (option_or (refused_kind names e.kind) (refused_bytes (MAX_BYTES - all_bytes before) names e.bytes)))) (one_more (length before))
+    ∙ ap (λ o. option_or (where_so (not (is_name (last_name names))) (BadName place)) (option_or (where_so (nat_lt 64 (length names) || is_one_too_many before) (TooLarge place)) (option_or o (refused_bytes (MAX_BYTES - all_bytes before) names e.bytes)))) (strange_kind names e.kind)
+    ∙ ap (λ b. option_or (where_so (not (is_name (last_name names))) (BadName place)) (option_or (where_so (nat_lt 64 (length names) || is_one_too_many before) (TooLarge place)) (option_or (where_so (is_strange e.kind) (Strange place)) (where_so (nat_lt MAX_FILE_BYTES (length e.bytes) || b) (TooLarge place))))) (over MAX_BYTES (all_bytes before) (length e.bytes) fits)
 
 -- where an entry has no cause, the bytes up to it are not too many
-last_none : {A : Type 0} (a b c d : Option A) → option_or a (option_or b (option_or c d)) ≡ None → d ≡ None
-last_none None None None d e = e
-last_none None None (Some x) d e = cc
-last_none None (Some x) c d e = cc
-last_none (Some x) b c d e = cc
-
-not_so : (a b : Bool) (cause : FolderCause) → where_so (a || b) cause ≡ None → b ≡ false
-not_so true b cause e = cc
-not_so false true cause e = cc
-not_so false false cause e = refl
-
-fits_still : (before : List Held) (names : Parts) (e : Entry) → cause_of before names e ≡ None → all_bytes before + length e.bytes ≤ most_bytes
-fits_still before names e none =
-    let place = place_of names in
-    let bytes = last_none (where_so (not (is_name (last_name names))) (BadName place)) (where_so (nat_lt 64 (length names) || is_one_too_many before) (TooLarge place)) (where_so (is_strange e.kind) (Strange place)) (where_so (nat_lt most_in_file (length e.bytes) || is_too_much before e) (TooLarge place)) none in
-    let few : nat_lt most_bytes (all_bytes before + length e.bytes) ≡ false = not_so (nat_lt most_in_file (length e.bytes)) (is_too_much before e) (TooLarge place) bytes in
-    grind (arith, nat_tests)
+fits_still : (before : List Held) (names : Parts) (e : Entry) → all_bytes before ≤ MAX_BYTES → cause_of before names e ≡ None → all_bytes before + length e.bytes ≤ MAX_BYTES
+fits_still before names e fits none = let one = has_passed _ _ names e (same_cause before names e fits ∙ none) in omega (arith, fits, one.fits)
 
 -- ---- the first cause along a list
 
@@ -69,26 +55,17 @@ more_bytes before h = sum_by_push (λ (x : Held). length x.1.bytes) before h
 more_nodes : (before : List Held) (h : Held) → length (before ++ h ∷ []) ≡ length before + 1
 more_nodes before h = length-append before (h ∷ [])
 
-pub same_first : (before hs : List Held) → all_bytes before ≤ most_bytes → first_refused (length before + 1) (most_bytes - all_bytes before) hs ≡ first_cause before hs
+pub same_first : (before hs : List Held) → all_bytes before ≤ MAX_BYTES → first_refused (length before + 1) (MAX_BYTES - all_bytes before) hs ≡ first_cause before hs
 same_first before [] fits = refl
 same_first before ((names, e) ∷ hs) fits =
     let h : Held = (names, e) in
-    ap (λ o. option_or o (first_refused (length before + 1 + 1) (most_bytes - all_bytes before - length e.bytes) hs)) (same_cause before names e fits)
+    ap (λ o. option_or o (first_refused (length before + 1 + 1) (MAX_BYTES - all_bytes before - length e.bytes) hs)) (same_cause before names e fits)
     ∙ only_if_none (cause_of before names e) _ (first_cause (before ++ h ∷ []) hs) (λ none.
-    let still = fits_still before names e none in
+    let still = fits_still before names e fits none in
     let bytes = more_bytes before h in
-    ap (λ n. first_refused (n + 1) (most_bytes - all_bytes before - length e.bytes) hs) (sym (more_nodes before h))
-    ∙ ap (λ n. first_refused (length (before ++ h ∷ []) + 1) n hs) (minus most_bytes (all_bytes before) (length e.bytes) ∙ ap (λ n. most_bytes - n) (sym bytes))
+    ap (λ n. first_refused (n + 1) (MAX_BYTES - all_bytes before - length e.bytes) hs) (sym (more_nodes before h))
+    ∙ ap (λ n. first_refused (length (before ++ h ∷ []) + 1) n hs) (minus MAX_BYTES (all_bytes before) (length e.bytes) ∙ ap (λ n. MAX_BYTES - n) (sym bytes))
     ∙ same_first (before ++ h ∷ []) hs (omega arith))
-
--- where no entry has a cause, the bytes of all are not too many
-pub fits_all : (before hs : List Held) → all_bytes before ≤ most_bytes → first_cause before hs ≡ None → all_bytes (before ++ hs) ≤ most_bytes
-fits_all before [] fits none = subst (λ l. all_bytes l ≤ most_bytes) (sym (append-nil before)) fits
-fits_all before (h ∷ hs) fits none =
-    let two = neither_some (cause_of before h.0 h.1) (first_cause (before ++ h ∷ []) hs) none in
-    let still = fits_still before h.0 h.1 two.0 in
-    let bytes = more_bytes before h in
-    subst (λ l. all_bytes l ≤ most_bytes) (append_assoc before (h ∷ []) hs) (fits_all (before ++ h ∷ []) hs (omega arith) two.1)
 
 -- ---- those before an entry
 
@@ -272,14 +249,14 @@ module _ (tree : Tree) (P : Parts) where
     earliest = λ q e found less. f.first q e (does_stand q e found) less;
   }
 
-  told : first_refused 1 most_bytes hs ≡ first_cause [] hs
+  told : first_refused 1 MAX_BYTES hs ≡ first_cause [] hs
   told = same_first [] hs (omega arith)
 
   abbrev S : Store
   S path = find parts_cmp path (unlisted hs)
 
   abbrev lines : Result (List TableLine) FolderCause
-  lines = table_lines (length hs + 1) (most_bytes - all_bytes hs) S (table_in (all_below tree P))
+  lines = table_lines (length hs + 1) (MAX_BYTES - all_bytes hs) S (table_in (all_below tree P))
 
   not_linked : (r : Result (List TableLine) FolderCause) (cause : FolderCause) → as_nodes (linked (unlisted hs) r) ≡ Err cause → r ≡ Err cause
   not_linked (Ok ls) cause e = cc
@@ -289,7 +266,7 @@ module _ (tree : Tree) (P : Parts) where
   table_at = find_below tree P table_name []
 
   -- the table's cause, where all entries are loaded
-  module _ (fits : all_bytes hs ≤ most_bytes) where
+  module _ (fits : all_bytes hs ≤ MAX_BYTES) where
     has_table : (cause : FolderCause) (o : Option Entry) → table_in (all_below tree P) ≡ o → IsCauseOf hs fits S o cause → IsTableCause tree P cause
     has_table cause None is why = absurd why
     has_table cause (Some e) is why = record { table = e; stands = sym table_at ∙ is; why = why }
@@ -299,11 +276,11 @@ module _ (tree : Tree) (P : Parts) where
 
     from_table : (cause : FolderCause) → IsTableCause tree P cause → lines ≡ Err cause
     from_table cause told_so =
-        ap (table_lines (length hs + 1) (most_bytes - all_bytes hs) S) (table_at ∙ told_so.stands)
+        ap (table_lines (length hs + 1) (MAX_BYTES - all_bytes hs) S) (table_at ∙ told_so.stands)
         ∙ table_refused hs fits S (Some told_so.table) cause told_so.why
 
-  all_fit : first_cause [] hs ≡ None → all_bytes hs ≤ most_bytes
-  all_fit none = fits_all [] hs (omega arith) none
+  all_fit : first_cause [] hs ≡ None → all_bytes hs ≤ MAX_BYTES
+  all_fit none = (have_room 1 MAX_BYTES hs (omega arith) (told ∙ none)).fit
 
   refused : (cause : FolderCause) → deep_loads tree P ≡ Err cause → IsFirstCause tree P cause ⊎ (HasNoCause tree P × IsTableCause tree P cause)
   refused cause e = by (first_cause [] hs) refl (sym (ap (λ o. as_nodes (unless_refused o (linked (unlisted hs) lines))) told) ∙ e)

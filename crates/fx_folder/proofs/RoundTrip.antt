@@ -1,15 +1,17 @@
 -- The folder of a whole filestore is loaded as this filestore.
-use Rattle.fx_folder.proofs.Prelude.{◌≡◌, inl, inr, ℕ, ◌+◌, ◌-◌, ◌<◌, ◌≤◌, Bool, true, false, cond, not, ◌&&◌, ◌||◌, T, List, [], ◌∷◌, ◌++◌, map, length, Option, Some, None, Ok, Err, is_some, is_none, IfSome, refl, sym, ◌∙◌, ap, subst, arith, nat_lt, nat_le, bytes_eq, eq_by_cmp, option_or, option_map, AllByRecursion, slice_index_or, IsStrictlySortedBy, keys_of, get, entries, find, put, is_sorted, from_entries, get-from_entries, get-entries, entries_sorted, len-entries, same_map, same_entries, is_sorted-put, cases_Bool, false≢true, nat_tests, bytes_eq-Decides, All-head, HostKind, parts_cmp, Tree, Entry, file, folder, parts_total, parts_same, strictly_sorted, sorted_test, Node, File, Dir, Link, path_cmp, has, is_name, IsName, path_total, path_same, parent, Store, Nodes, IsNode, lists, FolderCause, TooLarge, BadTable, host_entry, most_nodes, most_in_file, most_bytes, table_name, place_of, with_exec, TableLine, Mark, Target, Executable, TableLink, IsTable, over, can_mark, lines_of, links_among, flag_at, is_dir, is_file, table_text, read_body, but_no_link, unlinked, Held, all_below, walked, table_in, last_name, refused_kind, refused_entry, first_refused, unlisted, unless_bad, lacking, lines_or_cause, most_in_table, table_lines, linked, all_bytes, with_table, unless_refused, as_nodes, deep_loads, table_entry, is_table_place, HasFolderOf, Mapped, with_links, with_flags, with_lines, names_below, listed, IsWithinLimits, FoldersAreLoaded, find_flags, sorted_flags, body_read, lacks_none, AreFound, all_found, lines_are_tables, found, relisted, find_listed, has_below, names_ascend, find_linked, none_if_never}
+use Rattle.fx_folder.proofs.Prelude.{none_if_never, HasFolderOf, Held, all_below, all_bytes, as_nodes, deep_loads, first_refused, is_table_place, lacking, last_name, lines_or_cause, linked, refused_entry, refused_kind, table_entry, table_in, table_lines, unless_refused, unlisted, walked, with_table, FoldersAreLoaded, IsWithinLimits, host_entry, sorted_test, strictly_sorted, parts_cmp, Entry, Tree, file, folder, HostKind, IsName, has, is_name, path_cmp, path_same, path_total, parent, IsNode, Nodes, Store, lists, Node, Dir, File, Link, sorted_flags, find_listed, found, has_below, names_ascend, relisted, AreFound, all_found, lines_are_tables, body_read, lacks_none, Mapped, listed, names_below, with_flags, with_lines, with_links, place_of, table_name, IsTable, TableLink, can_mark, is_dir, is_file, lines_of, links_among, over, read_body, table_text, but_no_link, unlinked, FolderCause, BadTable, TooLarge, Mark, Executable, Target, TableLine, Bool, Err, IfSome, List, None, Ok, Option, Some, T, [], ap, arith, cond, false, inl, inr, is_none, is_some, length, map, not, option_map, refl, subst, sym, true, ℕ, ◌&&◌, ◌++◌, ◌+◌, ◌-◌, ◌<◌, ◌||◌, ◌∙◌, ◌∷◌, ◌≡◌, ◌≤◌, cases_Bool, false≢true, nat_tests, All-head, bytes_eq-Decides, entries, entries_sorted, find, from_entries, get, get-entries, get-from_entries, is_sorted, len-entries, put, same_map, is_sorted-put, same_entries, AllByRecursion, slice_index_or, IsStrictlySortedBy, keys_of, option_or, eq_by_cmp, bytes_eq, nat_le, nat_lt, MAX_BYTES, MAX_NODES, MAX_TABLE, MAX_FILE_BYTES}
+use Rattle.std.proofs.lemmas.Bool.{or_from}
 use Rattle.fx_outside.specs.declared.kind.HostKind.TheVariants as kind
 use Rattle.fx_store.specs.Names.{name_cmp}
 use Rattle.fx_store.specs.Orders.{name_total, name_same}
 use Rattle.fx_store.specs.Whole.{IsWhole}
 use Rattle.fx_folder.proofs.Walked.{below_sorted, below_root, find_walked_below}
 use Rattle.fx_folder.proofs.Loaded.{IsAccepted, node_of, find_unlisted, unlisted_sorted}
-use Rattle.fx_folder.proofs.Counted.{none_again, rest_sorted, has_root, held_of, lines_in, links_in, texts_of, more_bytes, counted, sum_held}
+use Rattle.fx_folder.proofs.Counted.{HasRoot, has_root, held_of, texts_of, more_bytes, counted, summed}
 use Rattle.fx_folder.proofs.Items.{reserved}
 use Rattle.fx_folder.proofs.Entries.{same_held}
 use Rattle.fx_folder.proofs.Branches.{find_below}
+use Rattle.fx_folder.proofs.Marking.{node_mark, set_by, find_marks, unlisted_plain, set_at}
 
 abbrev Paths : Type 0
 Paths = List (List ℕ)
@@ -19,14 +21,14 @@ Paths = List (List ℕ)
 not_refused : (named short room large over : Bool) (k : Option FolderCause) (c d e : FolderCause) → named ≡ true → short ≡ true → room ≡ true → k ≡ None → large ≡ false → over ≡ false → cond named (cond (short && room) (option_or k (cond (large || over) (Some c) None)) (Some d)) (Some e) ≡ None
 not_refused named short room large over k c d e p1 p2 p3 p4 p5 p6 = rw (p1, p2, p3, p4, p5, p6) refl
 
-passes : (nodes left : ℕ) (names : Paths) (e : Entry) → IsAccepted names e → nodes < most_nodes → length e.bytes ≤ left → refused_entry nodes left (names, e) ≡ None
+passes : (nodes left : ℕ) (names : Paths) (e : Entry) → IsAccepted names e → nodes < MAX_NODES → length e.bytes ≤ left → refused_entry nodes left (names, e) ≡ None
 passes nodes left names e ok room fits =
     let few = ok.short in
     let small = ok.small in
     let named : is_name (last_name names) ≡ true = ok.named in
     let p2 : nat_le (length names) 64 ≡ true = grind (arith, nat_tests) in
-    let p3 : nat_lt nodes most_nodes ≡ true = grind (arith, nat_tests) in
-    let p5 : nat_lt most_in_file (length e.bytes) ≡ false = grind (arith, nat_tests) in
+    let p3 : nat_lt nodes MAX_NODES ≡ true = grind (arith, nat_tests) in
+    let p5 : nat_lt MAX_FILE_BYTES (length e.bytes) ≡ false = grind (arith, nat_tests) in
     let p6 : nat_lt left (length e.bytes) ≡ false = grind (arith, nat_tests) in
     not_refused _ _ _ _ _ (refused_kind names e.kind) _ _ _ named p2 p3 (of_kind e.kind refl) p5 p6
   where
@@ -38,7 +40,7 @@ passes nodes left names e ok room fits =
 abbrev AreAccepted : List Held → Type 0
 AreAccepted hs = AllByRecursion (λ (h : Held). IsAccepted h.0 h.1) hs
 
-all_pass : (nodes left : ℕ) (hs : List Held) → AreAccepted hs → nodes + length hs ≤ most_nodes → all_bytes hs ≤ left → first_refused nodes left hs ≡ None
+all_pass : (nodes left : ℕ) (hs : List Held) → AreAccepted hs → nodes + length hs ≤ MAX_NODES → all_bytes hs ≤ left → first_refused nodes left hs ≡ None
 all_pass nodes left [] ok few fits = refl
 all_pass nodes left ((names, e) ∷ hs) ok few fits =
     let all = more_bytes (names, e) hs in
@@ -71,81 +73,25 @@ same_names ms ns up up' same =
 
 -- ---- a table is read
 
-few_enough : (more : Bool) (over : Bool) → more ≡ false → over ≡ false → (more || over) ≡ false
-few_enough more over p q = rw (p, q) refl
-
-reads : (nodes left : ℕ) (S : Store) (lines : List TableLine) → IsTable S lines → length (table_text lines) ≤ most_in_table → nodes + length (links_among lines) ≤ most_nodes → texts_of (links_among lines) ≤ left → table_lines nodes left S (table_entry lines) ≡ Ok lines
+reads : (nodes left : ℕ) (S : Store) (lines : List TableLine) → IsTable S lines → length (table_text lines) ≤ MAX_TABLE → nodes + length (links_among lines) ≤ MAX_NODES → texts_of (links_among lines) ≤ left → table_lines nodes left S (table_entry lines) ≡ Ok lines
 reads nodes left S [] table small few fits = refl
 reads nodes left S (l ∷ ls) table small few fits =
     let lines = l ∷ ls in
     let links = links_among lines in
     let text = table_text lines in
-    let fit : nat_lt most_in_table (length text) ≡ false = grind (arith, nat_tests) in
-    let room : nat_lt most_nodes (nodes + length links) ≡ false = grind (arith, nat_tests) in
+    let fit : nat_lt MAX_TABLE (length text) ≡ false = grind (arith, nat_tests) in
+    let room : nat_lt MAX_NODES (nodes + length links) ≡ false = grind (arith, nat_tests) in
     let bytes : nat_lt left (texts_of links) ≡ false = grind (arith, nat_tests) in
     ap (λ b. cond b (Err (TooLarge (place_of (table_name ∷ [])))) (lines_or_cause nodes left S text (read_body S text))) fit
     ∙ ap (lines_or_cause nodes left S text) (body_read S lines table)
-    ∙ ap (λ b. cond b (Err (TooLarge (place_of (table_name ∷ [])))) (unless_bad lines (lacking text lines))) (few_enough _ _ room bytes)
-    ∙ ap (λ b. unless_bad lines (cond b (Some (BadTable 1)) None)) (lacks_none lines)
+    ∙ ap (λ b. cond b (Err (TooLarge (place_of (table_name ∷ [])))) (unless_refused (lacking text lines) (Ok lines))) (or_from _ _ room bytes)
+    ∙ ap (λ b. unless_refused (cond b (Some (BadTable 1)) None) (Ok lines)) (lacks_none lines)
 
 -- ---- links are set in their places
-
-link_or : Option Node → Option Node → Option Node
-link_or None o = o
-link_or (Some (File bytes exec)) o = o
-link_or (Some (Dir names)) o = o
-link_or (Some (Link text)) o = Some (Link text)
-
--- an entry that is no link leaves what is found
-abbrev IsPassed : Node → Type 0
-IsPassed node = (o : Option Node) → link_or (Some node) o ≡ o
-
-passed : (node : Node) (b : Bool) (f o : Option Node) → IsPassed node → (b ≡ true → f ≡ None) → link_or f o ≡ link_or (cond b (Some node) f) o
-unfolding link_or
-passed node true f o skips again = ap (λ x. link_or x o) (again refl) ∙ sym (skips o)
-passed node false f o skips again = refl
-
-placed : (text : List ℕ) (b : Bool) (f o : Option Node) → (b ≡ true → f ≡ None) → link_or f (cond b (Some (Link text)) o) ≡ link_or (cond b (Some (Link text)) f) o
-unfolding link_or
-placed text true f o again = ap (λ x. link_or x (Some (Link text))) (again refl)
-placed text false f o again = refl
-
-find_with : (es : List Mapped) → T (is_sorted path_cmp es) → (ms : List Mapped) (q : Paths) → found (with_links ms (links_in es)) q ≡ link_or (found es q) (found ms q)
-unfolding link_or
-find_with [] up ms q = refl
-find_with ((p, File bytes true) ∷ es) up ms q = find_with es (rest_sorted p (File bytes true) es up) ms q ∙ passed (File bytes true) (eq_by_cmp path_cmp q p) (found es q) (found ms q) (λ o. refl) (none_again p (File bytes true) es up q)
-find_with ((p, File bytes false) ∷ es) up ms q = find_with es (rest_sorted p (File bytes false) es up) ms q ∙ passed (File bytes false) (eq_by_cmp path_cmp q p) (found es q) (found ms q) (λ o. refl) (none_again p (File bytes false) es up q)
-find_with ((p, Dir names) ∷ es) up ms q = find_with es (rest_sorted p (Dir names) es up) ms q ∙ passed (Dir names) (eq_by_cmp path_cmp q p) (found es q) (found ms q) (λ o. refl) (none_again p (Dir names) es up q)
-find_with ((p, Link text) ∷ es) up ms q =
-    find_with es (rest_sorted p (Link text) es up) (put path_cmp p (Link text) ms) q
-    ∙ ap (link_or (found es q)) (find_linked ms (record { path = p; text = text }) q)
-    ∙ placed text (eq_by_cmp path_cmp q p) (found es q) (found ms q) (none_again p (Link text) es up q)
 
 with_sorted : (links : List TableLink) (ms : List Mapped) → T (is_sorted path_cmp ms) → T (is_sorted path_cmp (with_links ms links))
 with_sorted [] ms up = up
 with_sorted (link ∷ links) ms up = with_sorted links (put path_cmp link.path (Link link.text) ms) (is_sorted-put path_cmp path_total link.path (Link link.text) ms up)
-
--- ---- each file has its flag
-
-node_flag : Option Node → Bool
-node_flag None = false
-node_flag (Some (File bytes exec)) = exec
-node_flag (Some (Dir names)) = false
-node_flag (Some (Link text)) = false
-
--- where an entry without a line comes first, the flag is that of the others
-skipped : (node : Node) (flag b : Bool) (o : Option Node) → node_flag (Some node) ≡ false → (b ≡ true → o ≡ None) → flag ≡ node_flag o → flag ≡ node_flag (cond b (Some node) o)
-unfolding node_flag
-skipped node flag true o plain none rest = rest ∙ ap node_flag (none refl) ∙ sym plain
-skipped node flag false o plain none rest = rest
-
-flag_is : (es : List Mapped) → T (is_sorted path_cmp es) → (q : Paths) → flag_at (lines_in es) q ≡ node_flag (found es q)
-unfolding node_flag
-flag_is [] up q = refl
-flag_is ((p, File bytes true) ∷ es) up q = elim (eq_by_cmp path_cmp q p) as (λ b. cond b true (flag_at (lines_in es) q) ≡ node_flag (cond b (Some (File bytes true)) (found es q))) [ true ↦ refl | false ↦ flag_is es (rest_sorted p (File bytes true) es up) q ]
-flag_is ((p, Link text) ∷ es) up q = elim (eq_by_cmp path_cmp q p) as (λ b. cond b false (flag_at (lines_in es) q) ≡ node_flag (cond b (Some (Link text)) (found es q))) [ true ↦ refl | false ↦ flag_is es (rest_sorted p (Link text) es up) q ]
-flag_is ((p, File bytes false) ∷ es) up q = skipped (File bytes false) _ (eq_by_cmp path_cmp q p) (found es q) refl (none_again p (File bytes false) es up q) (flag_is es (rest_sorted p (File bytes false) es up) q)
-flag_is ((p, Dir names) ∷ es) up q = skipped (Dir names) _ (eq_by_cmp path_cmp q p) (found es q) refl (none_again p (Dir names) es up q) (flag_is es (rest_sorted p (Dir names) es up) q)
 
 -- ---- nodes whose names are not listed yet
 
@@ -183,10 +129,11 @@ erased_file (Some (File bytes exec)) = refl
 erased_file (Some (Dir names)) = refl
 erased_file (Some (Link text)) = refl
 
-with_erased : (o : Option Node) → link_or o (with_exec (node_flag o) (option_map erased (but_no_link o))) ≡ option_map erased o
-unfolding erased link_or node_flag
+with_erased : (o : Option Node) → set_by (node_mark o) (option_map erased (but_no_link o)) ≡ option_map erased o
+unfolding erased
 with_erased None = refl
-with_erased (Some (File bytes exec)) = refl
+with_erased (Some (File bytes true)) = refl
+with_erased (Some (File bytes false)) = refl
 with_erased (Some (Dir names)) = refl
 with_erased (Some (Link text)) = refl
 
@@ -246,10 +193,9 @@ module _ (tree : Tree) (P : Paths) (nodes : Nodes) (whole : IsWhole (get nodes))
   ws_at : (q : Paths) → found ws q ≡ option_map erased (get nodes q)
   unfolding ws
   ws_at q =
-      find_with (entries nodes) (entries_sorted nodes) (with_flags (unlisted hs) lines) q
-      ∙ ap (λ o. link_or o (found (with_flags (unlisted hs) lines) q)) (sym (get-entries nodes q))
-      ∙ ap (link_or (get nodes q)) (find_flags (unlisted hs) lines q ∙ ap (with_exec (flag_at lines q)) (unlisted_is q))
-      ∙ ap (λ b. link_or (get nodes q) (with_exec b (option_map erased (unlinked (get nodes) q)))) (flag_is (entries nodes) (entries_sorted nodes) q ∙ ap node_flag (sym (get-entries nodes q)))
+      set_at (unlisted hs) (unlisted_plain hs) lines table_of q
+      ∙ ap (λ m. set_by m (found (unlisted hs) q)) (find_marks (entries nodes) (entries_sorted nodes) q ∙ ap node_mark (sym (get-entries nodes q)))
+      ∙ ap (set_by (node_mark (get nodes q))) (unlisted_is q)
       ∙ with_erased (get nodes q)
 
   relist : (q : Paths) (o : Option Node) → get nodes q ≡ o → option_map (relisted ws q) (option_map erased o) ≡ o
@@ -280,41 +226,43 @@ module _ (tree : Tree) (P : Paths) (nodes : Nodes) (whole : IsWhole (get nodes))
       subst (IsAccepted p) same (record { named = path.names (length p - 1) [] (omega arith); short = path.short; known = λ k. cc; small = omega arith })
   accepted p (Link text) e is shows some = cc
 
-  all_accepted : (es : List Mapped) → AreFound es (entries nodes) → AreAccepted (held_of es)
+  all_accepted : (es : List Mapped) → AreFound path_cmp es (entries nodes) → AreAccepted (held_of es)
   all_accepted [] there = tt
   all_accepted (([], node) ∷ es) there = all_accepted es there.1
   all_accepted ((n ∷ r, File bytes exec) ∷ es) there = (accepted (n ∷ r) (File bytes exec) (file bytes) (get-entries nodes (n ∷ r) ∙ there.0) refl (omega arith), all_accepted es there.1)
   all_accepted ((n ∷ r, Dir names) ∷ es) there = (accepted (n ∷ r) (Dir names) folder (get-entries nodes (n ∷ r) ∙ there.0) refl (omega arith), all_accepted es there.1)
   all_accepted ((n ∷ r, Link text) ∷ es) there = all_accepted es there.1
 
-  few : length (held_of (entries nodes)) + length links + 1 ≤ most_nodes
+  root : HasRoot (entries nodes) (Dir whole.root.0)
+  root = has_root (entries nodes) (Dir whole.root.0) (entries_sorted nodes) (sym (get-entries nodes []) ∙ whole.root.1)
+
+  few : length (held_of (entries nodes)) + length links + 1 ≤ MAX_NODES
   few =
-      let root = has_root (entries nodes) (Dir whole.root.0) (entries_sorted nodes) (sym (get-entries nodes []) ∙ whole.root.1) in
       let within = limits.count in
-      let all = counted (entries nodes) whole.root.0 root.rest root.is in
+      let all = counted (entries nodes) whole.root.0 root.rest root.is (entries_sorted nodes) in
       omega (arith, len-entries nodes)
 
-  bytes : all_bytes (held_of (entries nodes)) + texts_of links ≤ most_bytes
-  bytes = let within = limits.bytes in let all = sum_held (entries nodes) in omega arith
+  bytes : all_bytes (held_of (entries nodes)) + texts_of links ≤ MAX_BYTES
+  bytes = let within = limits.bytes in let all = summed (entries nodes) whole.root.0 root.rest root.is (entries_sorted nodes) in omega arith
 
-  none_refused : first_refused 1 most_bytes hs ≡ None
+  none_refused : first_refused 1 MAX_BYTES hs ≡ None
   none_refused =
       let room = few in
       let fit = bytes in
-      ap (first_refused 1 most_bytes) held_are
-      ∙ all_pass 1 most_bytes (held_of (entries nodes)) (all_accepted (entries nodes) (all_found (entries nodes) (strictly_sorted path_cmp (entries nodes) (entries_sorted nodes)))) (omega arith) (omega arith)
+      ap (first_refused 1 MAX_BYTES) held_are
+      ∙ all_pass 1 MAX_BYTES (held_of (entries nodes)) (all_accepted (entries nodes) (all_found path_total (entries nodes) (strictly_sorted path_cmp (entries nodes) (entries_sorted nodes)))) (omega arith) (omega arith)
 
   table_is : table_in (all_below tree P) ≡ table_entry lines
   table_is = find_below tree P table_name [] ∙ stands (table_name ∷ [])
 
-  lines_read : table_lines (length hs + 1) (most_bytes - all_bytes hs) (found (unlisted hs)) (table_in (all_below tree P)) ≡ Ok lines
+  lines_read : table_lines (length hs + 1) (MAX_BYTES - all_bytes hs) (found (unlisted hs)) (table_in (all_below tree P)) ≡ Ok lines
   lines_read =
       let n : length hs ≡ length (held_of (entries nodes)) = ap length held_are in
       let b : all_bytes hs ≡ all_bytes (held_of (entries nodes)) = ap all_bytes held_are in
       let room = few in
       let fit = bytes in
-      ap (table_lines (length hs + 1) (most_bytes - all_bytes hs) (found (unlisted hs))) table_is
-      ∙ reads (length hs + 1) (most_bytes - all_bytes hs) (found (unlisted hs)) lines table_of limits.table (omega arith) (omega arith)
+      ap (table_lines (length hs + 1) (MAX_BYTES - all_bytes hs) (found (unlisted hs))) table_is
+      ∙ reads (length hs + 1) (MAX_BYTES - all_bytes hs) (found (unlisted hs)) lines table_of limits.table (omega arith) (omega arith)
 
   is_loaded : deep_loads tree P ≡ Ok nodes
   unfolding ws

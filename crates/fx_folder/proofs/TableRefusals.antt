@@ -1,7 +1,8 @@
 -- The table is refused for the first cause of its lines.
-use Rattle.fx_folder.proofs.Prelude.{◌≡◌, inl, inr, ℕ, ◌+◌, ◌-◌, ◌<◌, ◌≤◌, Bool, true, false, cond, ◌||◌, List, [], ◌∷◌, ◌++◌, length, sum_by, Option, Some, None, Result, Ok, Err, refl, sym, ◌∙◌, ap, arith, append-nil, length-append, nat_lt, nat_tests, filter_map-append, sum_by-append, HostKind, Entry, Store, FolderCause, TooLarge, BadTable, most_nodes, most_bytes, table_name, place_of, TableLine, TableLink, Setting, setting_of, first_number, body_of, lines_text, read_body, lacks_flags, lines_before, links_among, link_in_line, IsFirstBadOf, Held, all_bytes, most_in_table, unless_bad, limited, lacking, lines_or_cause, table_file_lines, table_lines, exceed_limits, HasTooManyLinks, HasBadLine, IsLineCause, IsFileCause, body_said, SpellsLines, texts_are_lines, bad_line_is_first, before_end, lines_before_are, before_bad, stops_read, stops_in, lacks_in}
+use Rattle.fx_folder.proofs.Prelude.{Held, unless_refused, all_bytes, lacking, limited, lines_or_cause, table_file_lines, table_lines, HasBadLine, HasTooManyLinks, IsFileCause, IsLineCause, exceed_limits, Entry, HostKind, Store, body_said, before_bad, before_end, lines_before_are, stops_read, SpellsLines, bad_line_is_first, texts_are_lines, lacks_in, stops_in, place_of, table_name, Setting, TableLink, body_of, first_number, lacks_flags, lines_before, lines_text, link_in_line, links_among, read_body, setting_of, IsFirstBadOf, FolderCause, BadTable, TooLarge, TableLine, Bool, Err, List, None, Ok, Option, Result, Some, [], ap, append-nil, arith, cond, false, inl, inr, length, length-append, refl, sum_by, sym, true, ℕ, ◌++◌, ◌+◌, ◌-◌, ◌||◌, ◌∙◌, ◌∷◌, ◌≡◌, ◌≤◌, nat_tests, filter_map-append, sum_by-append, nat_lt, MAX_BYTES, MAX_NODES, MAX_TABLE}
 use Rattle.fx_outside.specs.declared.kind.HostKind.TheVariants as kind
 use Rattle.fx_folder.specs.Deep as deep
+use Rattle.fx_folder.proofs.Counted.{at_most, not_above, below, is_below}
 
 abbrev too_large : FolderCause
 too_large = TooLarge (place_of (table_name ∷ []))
@@ -20,25 +21,25 @@ module _ (all : List Held) where
   longer_too_many : (links more : List TableLink) → exceed_limits all links ≡ true → exceed_limits all (links ++ more) ≡ true
   unfolding texts
   longer_too_many links more many =
-      more_too_many (length all + 1) (all_bytes all) most_nodes most_bytes (length links) (texts links) (length (links ++ more)) (texts (links ++ more))
+      more_too_many (length all + 1) (all_bytes all) MAX_NODES MAX_BYTES (length links) (texts links) (length (links ++ more)) (texts (links ++ more))
       (omega (arith, length-append links more)) (omega (arith, sum_by-append (λ (l : TableLink). length l.text) links more)) many
 
   abbrev nodes : ℕ
   nodes = length all + 1
 
   abbrev left : ℕ
-  left = most_bytes - all_bytes all
+  left = MAX_BYTES - all_bytes all
 
-  pub same_many : all_bytes all ≤ most_bytes → (links : List TableLink) → deep.are_too_many nodes left links ≡ exceed_limits all links
+  pub same_many : all_bytes all ≤ MAX_BYTES → (links : List TableLink) → deep.are_too_many nodes left links ≡ exceed_limits all links
   unfolding texts
-  same_many fits links = ap (λ b. nat_lt most_nodes (nodes + length links) || b) (over most_bytes (all_bytes all) (texts links) fits)
+  same_many fits links = ap (λ b. nat_lt MAX_NODES (nodes + length links) || b) (over MAX_BYTES (all_bytes all) (texts links) fits)
 
   -- lines with more behind them have too many links too
   longer_lines : (lines more : List TableLine) → exceed_limits all (links_among lines) ≡ true → exceed_limits all (links_among (lines ++ more)) ≡ true
   longer_lines lines more many =
       ap (exceed_limits all) (filter_map-append (λ (l : TableLine). link_in_line l.path l.mark) lines more) ∙ longer_too_many (links_among lines) (links_among more) many
 
-  module _ (fits : all_bytes all ≤ most_bytes) (S : Store) (text : List ℕ) where
+  module _ (fits : all_bytes all ≤ MAX_BYTES) (S : Store) (text : List ℕ) where
     -- ---- the lines
 
     abbrev over_text : Setting
@@ -50,8 +51,8 @@ module _ (all : List Held) where
     abbrev body : List ℕ
     body = body_of text
 
-    limit_is : (lines : List TableLine) (bad : Option FolderCause) → limited nodes left lines bad ≡ cond (exceed_limits all (links_among lines)) (Err too_large) (unless_bad lines bad)
-    limit_is lines bad = ap (λ b. cond b (Err too_large) (unless_bad lines bad)) (same_many fits (links_among lines))
+    limit_is : (lines : List TableLine) (bad : Option FolderCause) → limited nodes left lines bad ≡ cond (exceed_limits all (links_among lines)) (Err too_large) (unless_refused bad (Ok lines))
+    limit_is lines bad = ap (λ b. cond b (Err too_large) (unless_refused bad (Ok lines))) (same_many fits (links_among lines))
 
     before_is : (number : ℕ) (bad : IsFirstBadOf over_text from body number) → limited nodes left (lines_before S text number) (Some (BadTable number)) ≡ cond (exceed_limits all (links_among bad.lines)) (Err too_large) (Err (BadTable number))
     before_is number bad = ap (λ ls. limited nodes left ls (Some (BadTable number))) (lines_before_are over_text from body number bad) ∙ limit_is bad.lines (Some (BadTable number))
@@ -61,7 +62,7 @@ module _ (all : List Held) where
         let spells = texts_are_lines over_text from body lines is in
         by spells (exceed_limits all (links_among lines)) refl (lacks_flags text lines) refl (sym (limit_is lines (lacking text lines)) ∙ e)
       where
-        by : SpellsLines over_text body lines → (b : Bool) → exceed_limits all (links_among lines) ≡ b → (l : Bool) → lacks_flags text lines ≡ l → cond b (Err too_large) (unless_bad lines (cond l (Some (BadTable 1)) None)) ≡ Err cause → IsLineCause S all text cause
+        by : SpellsLines over_text body lines → (b : Bool) → exceed_limits all (links_among lines) ≡ b → (l : Bool) → lacks_flags text lines ≡ l → cond b (Err too_large) (unless_refused (cond l (Some (BadTable 1)) None) (Ok lines)) ≡ Err cause → IsLineCause S all text cause
         by spells true many l lacks e = inl (cc, record { lines = lines; front = record { rest = []; parts = spells.spelled ∙ sym (append-nil (lines_text lines)); table = spells.table }; many = many })
         by spells false few true lacks e = inr (1, cc, record { first = lacks_in S text lines spells.table spells.spelled lacks; few = few })
         by spells false few false lacks e = cc
@@ -77,7 +78,7 @@ module _ (all : List Held) where
     many_read has (Ok lines) is =
         let spells = texts_are_lines over_text from body lines is in
         let longer = before_end has.lines lines has.front.rest has.front.table.valid spells.table.valid (sym has.front.parts ∙ spells.spelled) in
-        limit_is lines (lacking text lines) ∙ ap (λ b. cond b (Err too_large) (unless_bad lines (lacking text lines))) (ap (λ ls. exceed_limits all (links_among ls)) longer.links ∙ longer_lines has.lines longer.more has.many)
+        limit_is lines (lacking text lines) ∙ ap (λ b. cond b (Err too_large) (unless_refused (lacking text lines) (Ok lines))) (ap (λ ls. exceed_limits all (links_among ls)) longer.links ∙ longer_lines has.lines longer.more has.many)
     many_read has (Err number) is =
         let bad = bad_line_is_first over_text from body number is in
         let longer = before_bad over_text from body number bad has.lines has.front.rest has.front.table has.front.parts in
@@ -94,8 +95,8 @@ module _ (all : List Held) where
           let whole : body ≡ lines_text lines = has.first.parts ∙ (ap (λ r. lines_text lines ++ r) lacks.whole ∙ append-nil (lines_text lines)) in
           ap (lines_or_cause nodes left S text) (body_said S text lines whole has.first.table)
           ∙ (limit_is lines (lacking text lines)
-          ∙ (ap (λ b. cond b (Err too_large) (unless_bad lines (lacking text lines))) has.few
-          ∙ (ap (λ l. unless_bad lines (cond l (Some (BadTable 1)) None)) lacks.lacks ∙ ap (λ n. Err (BadTable n)) (sym lacks.place))))
+          ∙ (ap (λ b. cond b (Err too_large) (unless_refused (lacking text lines) (Ok lines))) has.few
+          ∙ (ap (λ l. unless_refused (cond l (Some (BadTable 1)) None) (Ok lines)) lacks.lacks ∙ ap (λ n. Err (BadTable n)) (sym lacks.place))))
     ]
 
     pub lines_refused : (cause : FolderCause) → IsLineCause S all text cause → lines_or_cause nodes left S text (read_body S text) ≡ Err cause
@@ -104,33 +105,21 @@ module _ (all : List Held) where
 
   -- ---- the table
 
-  small_enough : (n : ℕ) → nat_lt most_in_table n ≡ false → n ≤ most_in_table
-  small_enough n e = grind (arith, nat_tests)
-
-  not_small : (n : ℕ) → nat_lt most_in_table n ≡ true → most_in_table < n
-  not_small n e = grind (arith, nat_tests)
-
-  is_small : (n : ℕ) → n ≤ most_in_table → nat_lt most_in_table n ≡ false
-  is_small n le = grind (arith, nat_tests)
-
-  is_large : (n : ℕ) → most_in_table < n → nat_lt most_in_table n ≡ true
-  is_large n lt = grind (arith, nat_tests)
-
-  module _ (fits : all_bytes all ≤ most_bytes) (S : Store) where
+  module _ (fits : all_bytes all ≤ MAX_BYTES) (S : Store) where
     file_is : (k : HostKind) (text : List ℕ) (cause : FolderCause) → table_file_lines nodes left S k text ≡ Err cause → IsFileCause S all k text cause
     file_is kind.Folder text cause e = cc
     file_is kind.Other text cause e = cc
-    file_is kind.File text cause e = by (nat_lt most_in_table (length text)) refl e
+    file_is kind.File text cause e = by (nat_lt MAX_TABLE (length text)) refl e
       where
-        by : (b : Bool) → nat_lt most_in_table (length text) ≡ b → cond b (Err too_large) (lines_or_cause nodes left S text (read_body S text)) ≡ Err cause → IsFileCause S all kind.File text cause
-        by true is e = inl (not_small (length text) is, cc)
-        by false is e = inr (small_enough (length text) is, read_is fits S text (read_body S text) refl cause e)
+        by : (b : Bool) → nat_lt MAX_TABLE (length text) ≡ b → cond b (Err too_large) (lines_or_cause nodes left S text (read_body S text)) ≡ Err cause → IsFileCause S all kind.File text cause
+        by true is e = inl (below MAX_TABLE (length text) is, cc)
+        by false is e = inr (at_most (length text) MAX_TABLE is, read_is fits S text (read_body S text) refl cause e)
 
     file_refused : (k : HostKind) (text : List ℕ) (cause : FolderCause) → IsFileCause S all k text cause → table_file_lines nodes left S k text ≡ Err cause
     file_refused kind.Folder text cause same = ap (λ c. Err c) (sym same)
     file_refused kind.Other text cause same = ap (λ c. Err c) (sym same)
-    file_refused kind.File text cause (inl (large, same)) = ap (λ b. cond b (Err too_large) (lines_or_cause nodes left S text (read_body S text))) (is_large (length text) large) ∙ ap (λ c. Err c) (sym same)
-    file_refused kind.File text cause (inr (small, why)) = ap (λ b. cond b (Err too_large) (lines_or_cause nodes left S text (read_body S text))) (is_small (length text) small) ∙ lines_refused fits S text cause why
+    file_refused kind.File text cause (inl (large, same)) = ap (λ b. cond b (Err too_large) (lines_or_cause nodes left S text (read_body S text))) (is_below MAX_TABLE (length text) large) ∙ ap (λ c. Err c) (sym same)
+    file_refused kind.File text cause (inr (small, why)) = ap (λ b. cond b (Err too_large) (lines_or_cause nodes left S text (read_body S text))) (not_above (length text) MAX_TABLE small) ∙ lines_refused fits S text cause why
 
     -- the table that stands, if any, is refused for the cause
     abbrev pub IsCauseOf : Option Entry → FolderCause → Type 0

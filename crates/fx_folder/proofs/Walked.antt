@@ -1,24 +1,18 @@
 -- What is walked of a folder: what stands below it in the host's tree, but for the table.
-use Rattle.fx_folder.proofs.Prelude.{◌≡◌, ℕ, Bool, true, cond, not, T, List, [], ◌∷◌, ◌++◌, None, refl, sym, ◌∙◌, ap, subst, bytes_eq, get, entries, find, is_sorted, below_all, where_key, is_sorted-where_key, find-where_key, Parts, parts_cmp, Tree, folder, both, first, parts_same, table_name, Held, all_below, walked}
+use Rattle.fx_folder.proofs.Prelude.{Held, in_table, all_below, walked, both, first, parts_same, Parts, parts_cmp, Tree, folder, table_name, Bool, List, None, T, [], ap, cond, not, sym, ℕ, ◌++◌, ◌∙◌, ◌∷◌, ◌≡◌, entries, find, get, is_sorted, below_all, find-where_key, is_sorted-where_key, bytes_eq}
 use Rattle.fx_folder.proofs.Branches.{all_sorted, root_below, find_below}
 
 -- ---- the table is left out
 
 -- a path that is walked
 abbrev pub is_walked : Parts → Bool
-is_walked [] = true
-is_walked (name ∷ names) = not (bytes_eq name table_name)
-
-walked_is : (hs : List Held) → walked hs ≡ where_key parts_cmp is_walked hs
-walked_is [] = refl
-walked_is (([], e) ∷ hs) = ap (λ l. ([], e) ∷ l) (walked_is hs)
-walked_is ((n ∷ ns, e) ∷ hs) = ap (λ l. cond (not (bytes_eq n table_name)) ((n ∷ ns, e) ∷ l) l) (walked_is hs)
+is_walked names = not (in_table names)
 
 pub find_walked : (hs : List Held) (q : Parts) → find parts_cmp q (walked hs) ≡ cond (is_walked q) (find parts_cmp q hs) None
-find_walked hs q = ap (find parts_cmp q) (walked_is hs) ∙ find-where_key parts_cmp is_walked q (λ x tied. ap is_walked (sym (parts_same q x tied))) hs
+find_walked hs q = find-where_key parts_cmp is_walked q (λ x tied. ap is_walked (sym (parts_same q x tied))) hs
 
 pub walked_sorted : (hs : List Held) → T (is_sorted parts_cmp hs) → T (is_sorted parts_cmp (walked hs))
-walked_sorted hs up = subst (λ l. T (is_sorted parts_cmp l)) (sym (walked_is hs)) (is_sorted-where_key parts_cmp is_walked hs up)
+walked_sorted hs up = is_sorted-where_key parts_cmp is_walked hs up
 
 -- the entries that are walked, in order and behind the root
 pub below_sorted : (tree : Tree) (P : Parts) → T (is_sorted parts_cmp (walked (all_below tree P)))

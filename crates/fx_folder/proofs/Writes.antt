@@ -1,5 +1,5 @@
 -- The steps of writing a folder: what each leaves, and that the next may be made.
-use Rattle.fx_folder.proofs.Prelude.{◌≡◌, inl, inr, ℕ, ◌<◌, ◌≤◌, Bool, true, false, cond, List, [], ◌∷◌, ◌++◌, length, Option, Some, None, IfSome, IsSome, OnOk, OnErr, Result, refl, sym, ◌∙◌, ap, subst, arith, append_assoc, append-nil, option_or, entries, get, find, Node, Dir, path_cmp, Nodes, Parts, parts, HostView, WritesIn, LetsIn, IsIn, HostFault, writes_then, fault_in, Tree, Entry, file, is_free_at, host_entry, table_name, place_of, path_below, TableLine, line_of, lines_of, lines_text, has_flags, version_line, table_text, table_entry, IfTold, IsSaved, IsPartlySaved, IsReady, TakesPath, IsLeftBelow, with_folder, MadePart, IsOpen, with_entry, WrotePart, HasEntries, WroteFront, file_unless_empty, PutsAt, PutsIn, find_append}
+use Rattle.fx_folder.proofs.Prelude.{◌≡◌, inl, inr, ℕ, ◌<◌, ◌≤◌, Bool, true, false, cond, List, [], ◌∷◌, ◌++◌, length, Option, Some, None, IfSome, IsSome, OnOk, OnErr, Result, refl, sym, ◌∙◌, ap, subst, arith, append_assoc, append-nil, option_or, entries, get, find, Node, Dir, path_cmp, Nodes, Parts, parts, HostView, WritesIn, LetsIn, IsIn, HostFault, writes_then, fault_in, Tree, Entry, file, is_free_at, host_entry, table_name, place_of, path_below, TableLine, line_of, lines_of, lines_text, has_flags, version_line, table_text, table_entry, IfTold, IsSaved, IsPartlySaved, IsReady, TakesPath, IsLeftBelow, with_folder, MadePart, IsOpen, with_entry, WrotePart, HasEntries, WroteFront, file_unless_empty, PutsAt, PutsIn, find_append, Out}
 use Rattle.fx_store.specs.Whole.{IsWhole}
 use Rattle.fx_outside.specs.Tree as tree
 use Rattle.fx_folder.proofs.Filled.{opens}
@@ -147,12 +147,12 @@ stops_in old host host' path nodes left left' p was next wrote =
 -- the whole folder
 
 -- what is known of the tree before the folder is written
-pub record IsStart (told : Option Tree) (path : List ℕ) (there : Bool) (nodes : Nodes) : Type 0 where
+pub record IsStart (told : Option Tree) (path : List ℕ) (there : Out) (nodes : Nodes) : Type 0 where
   pub whole : IfSome told tree.IsWhole
   pub ready : IfSome told (λ t. IsReady t path there)
   pub stored : IsWhole (get nodes)
 
-pub opened : (told told' : Option Tree) (path : List ℕ) (there : Bool) → IfSome told tree.IsWhole → IfSome told (λ t. IsReady t path there) → IfTold told told' (λ t u. u ≡ with_folder t (parts path) there) → IfSome told' (λ t. IsOpen t path)
+pub opened : (told told' : Option Tree) (path : List ℕ) (there : Out) → IfSome told tree.IsWhole → IfSome told (λ t. IsReady t path there) → IfTold told told' (λ t u. u ≡ with_folder t (parts path) there) → IfSome told' (λ t. IsOpen t path)
 opened None None path there whole can made = tt
 opened None (Some u) path there whole can made = cc
 opened (Some t) told' path there whole can made =
@@ -160,12 +160,12 @@ opened (Some t) told' path there whole can made =
     (λ x u is e. subst (λ y. IsOpen y path) (sym e) is)
 
 -- the folder and its entries are there
-pub filled : (told told1 told2 : Option Tree) (path : List ℕ) (there : Bool) (nodes : Nodes) → IfTold told told1 (λ t u. u ≡ with_folder t (parts path) there) → IfTold told1 told2 (λ t t'. HasEntries t t' (parts path) (entries nodes)) → IfTold told told2 (λ t t'. HasEntries t t' (parts path) (entries nodes))
+pub filled : (told told1 told2 : Option Tree) (path : List ℕ) (there : Out) (nodes : Nodes) → IfTold told told1 (λ t u. u ≡ with_folder t (parts path) there) → IfTold told1 told2 (λ t t'. HasEntries t t' (parts path) (entries nodes)) → IfTold told told2 (λ t t'. HasEntries t t' (parts path) (entries nodes))
 filled told told1 told2 path there nodes made wrote =
     told_then told told1 told2 (λ t u. u ≡ with_folder t (parts path) there) (λ t t'. HasEntries t t' (parts path) (entries nodes)) (λ t t'. HasEntries t t' (parts path) (entries nodes)) made wrote
     (λ t u v is first has. from_old t u v (parts path) there (entries nodes) first has)
 
-pub free_for_table : (told told1 told2 : Option Tree) (path : List ℕ) (there : Bool) (nodes : Nodes) → IsStart told path there nodes → IfTold told told1 (λ t u. u ≡ with_folder t (parts path) there) → IfTold told1 told2 (λ t t'. HasEntries t t' (parts path) (entries nodes)) → IfSome told2 (λ t. is_free_at t (path_below path table_name) ≡ true)
+pub free_for_table : (told told1 told2 : Option Tree) (path : List ℕ) (there : Out) (nodes : Nodes) → IsStart told path there nodes → IfTold told told1 (λ t u. u ≡ with_folder t (parts path) there) → IfTold told1 told2 (λ t t'. HasEntries t t' (parts path) (entries nodes)) → IfSome told2 (λ t. is_free_at t (path_below path table_name) ≡ true)
 free_for_table told told1 told2 path there nodes start made wrote =
     told_next told1 told2 (λ t. IsOpen t path) (λ t t'. HasEntries t t' (parts path) (entries nodes)) (λ t. is_free_at t (path_below path table_name) ≡ true) (opened told told1 path there start.whole start.ready made) wrote
     (λ t u is has. table_free nodes start.stored t u (parts path) has (path_below path table_name) (fit_table path is.fit) (parts_table path))
@@ -182,22 +182,22 @@ table_file (line ∷ lines) text is = ap file_unless_empty is ∙ some (has_flag
     some true = refl
     some false = long (line_of line) (lines_text lines)
 
-pub saved_all : (told told1 told2 told3 : Option Tree) (path : List ℕ) (there : Bool) (nodes : Nodes) (text : List ℕ) → IsWhole (get nodes) → text ≡ table_text (lines_of nodes) → IfTold told told1 (λ t u. u ≡ with_folder t (parts path) there) → IfTold told1 told2 (λ t t'. HasEntries t t' (parts path) (entries nodes)) → IfTold told2 told3 (λ t t'. t' ≡ with_entry t (parts path ++ table_name ∷ []) (file_unless_empty text)) → IfTold told told3 (λ t t'. IsSaved t t' (parts path) nodes)
+pub saved_all : (told told1 told2 told3 : Option Tree) (path : List ℕ) (there : Out) (nodes : Nodes) (text : List ℕ) → IsWhole (get nodes) → text ≡ table_text (lines_of nodes) → IfTold told told1 (λ t u. u ≡ with_folder t (parts path) there) → IfTold told1 told2 (λ t t'. HasEntries t t' (parts path) (entries nodes)) → IfTold told2 told3 (λ t t'. t' ≡ with_entry t (parts path ++ table_name ∷ []) (file_unless_empty text)) → IfTold told told3 (λ t t'. IsSaved t t' (parts path) nodes)
 saved_all told told1 told2 told3 path there nodes text stored is made wrote added =
     told_then told told2 told3 (λ t t'. HasEntries t t' (parts path) (entries nodes)) (λ t t'. t' ≡ with_entry t (parts path ++ table_name ∷ []) (file_unless_empty text)) (λ t t'. IsSaved t t' (parts path) nodes) (filled told told1 told2 path there nodes made wrote) added
     (λ t u v at has new. all_saved nodes stored t u (parts path) has v (new ∙ ap (with_entry u (parts path ++ table_name ∷ [])) (table_file (lines_of nodes) text is)))
 
-pub stopped_in_table : (told told1 told2 told3 : Option Tree) (path : List ℕ) (there : Bool) (nodes : Nodes) (text : List ℕ) → IsWhole (get nodes) → text ≡ table_text (lines_of nodes) → IfTold told told1 (λ t u. u ≡ with_folder t (parts path) there) → IfTold told1 told2 (λ t t'. HasEntries t t' (parts path) (entries nodes)) → IfTold told2 told3 (λ t t'. WrotePart t t' (parts path ++ table_name ∷ []) (file_unless_empty text)) → IfTold told told3 (λ t t'. IsPartlySaved t t' (parts path) nodes)
+pub stopped_in_table : (told told1 told2 told3 : Option Tree) (path : List ℕ) (there : Out) (nodes : Nodes) (text : List ℕ) → IsWhole (get nodes) → text ≡ table_text (lines_of nodes) → IfTold told told1 (λ t u. u ≡ with_folder t (parts path) there) → IfTold told1 told2 (λ t t'. HasEntries t t' (parts path) (entries nodes)) → IfTold told2 told3 (λ t t'. WrotePart t t' (parts path ++ table_name ∷ []) (file_unless_empty text)) → IfTold told told3 (λ t t'. IsPartlySaved t t' (parts path) nodes)
 stopped_in_table told told1 told2 told3 path there nodes text stored is made wrote part =
     told_then told told2 told3 (λ t t'. HasEntries t t' (parts path) (entries nodes)) (λ t t'. WrotePart t t' (parts path ++ table_name ∷ []) (file_unless_empty text)) (λ t t'. IsPartlySaved t t' (parts path) nodes) (filled told told1 told2 path there nodes made wrote) part
     (λ t u v at has some. refused_table nodes stored t u v (parts path) has (subst (WrotePart u v (parts path ++ table_name ∷ [])) (table_file (lines_of nodes) text is) some))
 
-pub stopped_in_front : (told told1 told2 : Option Tree) (path : List ℕ) (there : Bool) (nodes : Nodes) → IsWhole (get nodes) → IfTold told told1 (λ t u. u ≡ with_folder t (parts path) there) → IfTold told1 told2 (λ t t'. WroteFront t t' (parts path) nodes) → IfTold told told2 (λ t t'. IsPartlySaved t t' (parts path) nodes)
+pub stopped_in_front : (told told1 told2 : Option Tree) (path : List ℕ) (there : Out) (nodes : Nodes) → IsWhole (get nodes) → IfTold told told1 (λ t u. u ≡ with_folder t (parts path) there) → IfTold told1 told2 (λ t t'. WroteFront t t' (parts path) nodes) → IfTold told told2 (λ t t'. IsPartlySaved t t' (parts path) nodes)
 stopped_in_front told told1 told2 path there nodes stored made wrote =
     told_then told told1 told2 (λ t u. u ≡ with_folder t (parts path) there) (λ t t'. WroteFront t t' (parts path) nodes) (λ t t'. IsPartlySaved t t' (parts path) nodes) made wrote
     (λ t u v is first was. refused_front nodes stored t u v (parts path) there first was)
 
-pub stopped_at_folder : (told told' : Option Tree) (path : List ℕ) (there : Bool) (nodes : Nodes) → IsStart told path there nodes → IfTold told told' (λ t u. MadePart t u (parts path) there) → IfTold told told' (λ t t'. IsPartlySaved t t' (parts path) nodes)
+pub stopped_at_folder : (told told' : Option Tree) (path : List ℕ) (there : Out) (nodes : Nodes) → IsStart told path there nodes → IfTold told told' (λ t u. MadePart t u (parts path) there) → IfTold told told' (λ t t'. IsPartlySaved t t' (parts path) nodes)
 stopped_at_folder None told' path there nodes start made = made
 stopped_at_folder (Some t) None path there nodes start made = made
 stopped_at_folder (Some t) (Some u) path there nodes start made = refused_folder nodes start.stored t u path there start.whole start.ready made

@@ -9,14 +9,14 @@ use Rattle.std.specs.Cmp.Lexicographic.{slice_cmp}
 use Rattle.fx_outside.specs.Listing.{name_cmp}
 use Rattle.fx_outside.specs.Path.{Parts}
 use Rattle.fx_outside.specs.Tree.{Tree, Entry, file}
-use Rattle.fx_store.specs.declared.limits.TheConstants.{MAX_PATH_NAMES}
+use Rattle.fx_store.specs.declared.limits.TheConstants.{MAX_PATH_NAMES, MAX_FILE_BYTES}
 use Rattle.fx_store.specs.declared.node.Node.{Node}
 use Rattle.fx_store.specs.declared.node.Node.TheVariants.{File, Dir}
 use Rattle.fx_store.specs.Names.{is_name, path_cmp}
 use Rattle.fx_store.specs.Whole.{Store, Nodes}
 use Rattle.fx_table.specs.declared.fault.FolderCause.{FolderCause}
 use Rattle.fx_table.specs.declared.fault.FolderCause.TheVariants.{BadName, Strange, TooLarge, BadTable}
-use Rattle.fx_folder.specs.Limits.{most_nodes, most_in_file, most_bytes}
+use Rattle.fx_folder.specs.declared.limits.TheConstants.{MAX_BYTES, MAX_NODES, MAX_TABLE}
 use Rattle.fx_table.specs.Listed.{Mapped, with_lines, listed}
 use Rattle.fx_table.specs.Places.{table_name, place_of, rest_of}
 use Rattle.fx_folder.specs.Places.{host_entry}
@@ -39,14 +39,14 @@ held_below folder e = option_map (λ names. (names, e.1)) (option_and_then insid
 abbrev pub all_below : Tree → Parts → List Held
 all_below tree folder = filter_map (held_below folder) (entries tree)
 
--- the table, and what stands below it if it is no file
-abbrev pub is_table_entry : Held → Bool
-is_table_entry ([], e) = false
-is_table_entry (name ∷ names, e) = bytes_eq name table_name
+-- these names lead to the table, or to what stands below it if it is no file
+abbrev pub in_table : Parts → Bool
+in_table [] = false
+in_table (name ∷ names) = bytes_eq name table_name
 
 -- the entries that are walked: all but the table
 abbrev pub walked : List Held → List Held
-walked hs = filter (λ h. not (is_table_entry h)) hs
+walked hs = filter (λ (h : Held). not (in_table h.0)) hs
 
 -- the table itself
 abbrev pub table_in : List Held → Option Entry
@@ -61,14 +61,14 @@ refused_kind names _ = None
 
 -- one file too large, or too many bytes in all, where so many may still be loaded
 abbrev pub refused_bytes : ℕ → Parts → List ℕ → Option FolderCause
-refused_bytes left names bytes = cond (nat_lt most_in_file (length bytes) || nat_lt left (length bytes)) (Some (TooLarge (place_of names))) None
+refused_bytes left names bytes = cond (nat_lt MAX_FILE_BYTES (length bytes) || nat_lt left (length bytes)) (Some (TooLarge (place_of names))) None
 
 -- The first cause against an entry, where so many nodes come before it: the name is none of a filestore; the path has more
 -- than 64 names, or it is one node too many; it is neither file nor folder; its bytes are too many.
 abbrev pub refused_entry : ℕ → ℕ → Held → Option FolderCause
 refused_entry nodes left (names, e) =
     cond (is_name (last_name names))
-    (cond (nat_le (length names) MAX_PATH_NAMES && nat_lt nodes most_nodes)
+    (cond (nat_le (length names) MAX_PATH_NAMES && nat_lt nodes MAX_NODES)
     (option_or (refused_kind names e.kind) (refused_bytes left names e.bytes))
     (Some (TooLarge (place_of names))))
     (Some (BadName (place_of names)))
@@ -87,20 +87,18 @@ node_of_kind _ bytes = File bytes false
 abbrev pub unlisted : List Held → List Mapped
 unlisted hs = ([], Dir []) ∷ map (λ (h : Held). (h.0, node_of_kind h.1.kind h.1.bytes)) hs
 
-abbrev pub most_in_table : ℕ
-most_in_table = 33554432
-
 -- more links than nodes may still be loaded, or more bytes in their texts
 abbrev pub are_too_many : ℕ → ℕ → List TableLink → Bool
-are_too_many nodes left links = nat_lt most_nodes (nodes + length links) || nat_lt left (sum_by (λ (l : TableLink). length l.text) links)
+are_too_many nodes left links = nat_lt MAX_NODES (nodes + length links) || nat_lt left (sum_by (λ (l : TableLink). length l.text) links)
 
-abbrev pub unless_bad : List TableLine → Option FolderCause → Result (List TableLine) FolderCause
-unless_bad lines None = Ok lines
-unless_bad lines (Some cause) = Err cause
+-- what is loaded, unless it is refused
+abbrev pub unless_refused : {A : Type 0} → Option FolderCause → Result A FolderCause → Result A FolderCause
+unless_refused None loaded = loaded
+unless_refused (Some cause) loaded = Err cause
 
 -- the lines of the table, or the first refusal: a good line may be one too many before a bad one comes
 abbrev pub limited : ℕ → ℕ → List TableLine → Option FolderCause → Result (List TableLine) FolderCause
-limited nodes left lines bad = cond (are_too_many nodes left (links_among lines)) (Err (TooLarge (place_of (table_name ∷ [])))) (unless_bad lines bad)
+limited nodes left lines bad = cond (are_too_many nodes left (links_among lines)) (Err (TooLarge (place_of (table_name ∷ [])))) (unless_refused bad (Ok lines))
 
 -- a text of version 2 that has no need of it is bad at its first line, but all lines are read before
 abbrev pub lacking : List ℕ → List TableLine → Option FolderCause
@@ -113,7 +111,7 @@ lines_or_cause nodes left S text (Err number) = limited nodes left (lines_before
 -- a table that is a file and not too large is read line by line
 abbrev pub table_file_lines : ℕ → ℕ → Store → HostKind → List ℕ → Result (List TableLine) FolderCause
 table_file_lines nodes left S kind.File text =
-    cond (nat_lt most_in_table (length text)) (Err (TooLarge (place_of (table_name ∷ [])))) (lines_or_cause nodes left S text (read_body S text))
+    cond (nat_lt MAX_TABLE (length text)) (Err (TooLarge (place_of (table_name ∷ [])))) (lines_or_cause nodes left S text (read_body S text))
 table_file_lines nodes left S _ text = Err (Strange (place_of (table_name ∷ [])))
 
 -- no table stands for no lines
@@ -132,15 +130,11 @@ all_bytes hs = sum_by (λ (h : Held). length h.1.bytes) hs
 -- what the table adds to the entries that were walked
 abbrev pub with_table : List Held → Option Entry → Result (List Mapped) FolderCause
 with_table hs table =
-    linked (unlisted hs) (table_lines (length hs + 1) (most_bytes - all_bytes hs) (λ path. find path_cmp path (unlisted hs)) table)
-
-abbrev pub unless_refused : Option FolderCause → Result (List Mapped) FolderCause → Result (List Mapped) FolderCause
-unless_refused None loaded = loaded
-unless_refused (Some cause) loaded = Err cause
+    linked (unlisted hs) (table_lines (length hs + 1) (MAX_BYTES - all_bytes hs) (λ path. find path_cmp path (unlisted hs)) table)
 
 -- what entries stand for, or the first refusal: first the entries in the order of their paths, then the table
 abbrev pub loaded : List Held → Result (List Mapped) FolderCause
-loaded hs = unless_refused (first_refused 1 most_bytes (walked hs)) (with_table (walked hs) (table_in hs))
+loaded hs = unless_refused (first_refused 1 MAX_BYTES (walked hs)) (with_table (walked hs) (table_in hs))
 
 abbrev pub as_nodes : Result (List Mapped) FolderCause → Result Nodes FolderCause
 as_nodes (Ok es) = Ok (from_entries es)

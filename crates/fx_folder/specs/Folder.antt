@@ -6,6 +6,8 @@ use Rattle.fx_store.specs.Whole.{Nodes}
 use Rattle.fx_outside.specs.declared.kind.HostKind.TheVariants as kind
 use Rattle.fx_folder.specs.declared.fault.SaveFault.{SaveFault}
 use Rattle.fx_folder.specs.declared.fault.SaveFault.TheVariants as fault
+pub use Rattle.fx_folder.specs.declared.readying.Out.{Out}
+pub use Rattle.fx_folder.specs.declared.readying.Out.TheVariants.{Absent, Empty}
 use Rattle.fx_outside.specs.Host.{HostView, FaultIn, HasFailed}
 use Rattle.fx_outside.specs.Path.{Parts, parts, parts_cmp, is_fit, above}
 use Rattle.fx_outside.specs.Tree.{Tree, Entry, file, entry_at, is_folder_at, has_folder}
@@ -55,9 +57,9 @@ abbrev pub SavesPart : List ℕ → Nodes → HostView → HostView → Type 0
 SavesPart path nodes old new = IfTold old.told new.told (λ tree tree'. IsPartlySaved tree tree' (parts path) nodes)
 
 -- an empty folder stands at the path; or nothing does, and the path is fit
-abbrev pub IsReady : Tree → List ℕ → Bool → Type 0
-IsReady tree path true = (is_folder_at tree path ≡ true) × ((name : List ℕ) → get tree (parts path ++ name ∷ []) ≡ None)
-IsReady tree path false = (is_fit path ≡ true) × (entry_at tree path ≡ None)
+abbrev pub IsReady : Tree → List ℕ → Out → Type 0
+IsReady tree path Empty = (is_folder_at tree path ≡ true) × ((name : List ℕ) → get tree (parts path ++ name ∷ []) ≡ None)
+IsReady tree path Absent = (is_fit path ≡ true) × (entry_at tree path ≡ None)
 
 -- something stands at the path that is no empty folder
 abbrev pub IsTaken : Tree → List ℕ → Type 0
@@ -71,11 +73,11 @@ ReadyCause path old new fault.NotEmpty = IfSome old.told (λ tree. IsTaken tree 
 ReadyCause path old new fault.NoMemory = Unit {0}
 
 -- the folder is to be made, and none stands above it
-abbrev pub LacksFolder : Tree → List ℕ → Bool → Type 0
-LacksFolder tree path there = (there ≡ false) × (has_folder tree (above (parts path)) ≡ false)
+abbrev pub LacksFolder : Tree → List ℕ → Out → Type 0
+LacksFolder tree path there = (there ≡ Absent) × (has_folder tree (above (parts path)) ≡ false)
 
 -- when a folder is not written whole
-abbrev pub SaveCause : List ℕ → Bool → HostView → HostView → SaveFault → Type 0
+abbrev pub SaveCause : List ℕ → Out → HostView → HostView → SaveFault → Type 0
 SaveCause path there old new fault.WriteFault = FaultIn path old new ⊎ IsSomeAnd old.told (λ tree. LacksFolder tree path there)
 SaveCause path there old new fault.NotEmpty = ⊥
 SaveCause path there old new fault.NoMemory = Unit {0}

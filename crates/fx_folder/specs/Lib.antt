@@ -4,7 +4,6 @@ pub mod Faults
 pub mod Folder
 pub mod Grown
 pub mod HasFolder
-pub mod Limits
 pub mod LoadLaws
 pub mod Loads
 pub mod Places

@@ -7,9 +7,9 @@ use Rattle.fx_outside.specs.Tree.{Tree}
 use Rattle.fx_store.specs.declared.node.Node.{Node}
 use Rattle.fx_store.specs.declared.node.Node.TheVariants.{File, Dir, Link}
 use Rattle.fx_store.specs.Whole.{Nodes, IsWhole}
-use Rattle.fx_folder.specs.Loads.{most_nodes, most_bytes}
+use Rattle.fx_folder.specs.declared.limits.TheConstants.{MAX_BYTES, MAX_NODES, MAX_TABLE}
 use Rattle.fx_table.specs.Table.{table_text, lines_of}
-use Rattle.fx_folder.specs.Deep.{most_in_table, deep_loads, HasFolderOf}
+use Rattle.fx_folder.specs.Deep.{deep_loads, HasFolderOf}
 use Rattle.fx_table.specs.Listed.{Mapped}
 use Rattle.fx_table.specs.Shaped.{AreOfBytes}
 
@@ -29,9 +29,9 @@ sizes_of es = sum_by (λ (e : Mapped). counted_bytes e.1) es
 
 -- a filestore that can be loaded: so many nodes with the root, so many bytes in its files and link texts, and in its table
 pub record IsWithinLimits (nodes : Nodes) : Type 0 where
-  pub count : len nodes ≤ most_nodes
-  pub bytes : sizes_of (entries nodes) ≤ most_bytes
-  pub table : length (table_text (lines_of nodes)) ≤ most_in_table
+  pub count : len nodes ≤ MAX_NODES
+  pub bytes : sizes_of (entries nodes) ≤ MAX_BYTES
+  pub table : length (table_text (lines_of nodes)) ≤ MAX_TABLE
 
 -- the folder of a whole filestore within the limits is loaded as this filestore
 abbrev pub FoldersAreLoaded : Type 0

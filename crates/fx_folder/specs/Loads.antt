@@ -8,7 +8,6 @@ use Rattle.fx_store.specs.Whole.{Nodes}
 use Rattle.fx_table.specs.declared.fault.FolderCause.{FolderCause}
 use Rattle.fx_table.specs.declared.fault.LoadFault.{LoadFault}
 use Rattle.fx_table.specs.declared.fault.LoadFault.TheVariants.{Refused, ReadFault, NoMemory}
-pub use Rattle.fx_folder.specs.Limits.{most_nodes, most_in_file, most_bytes}
 use Rattle.fx_folder.specs.Deep.{deep_loads}
 
 -- the filestore that the folder at a path stands for, or the first refusal

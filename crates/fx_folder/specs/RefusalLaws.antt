@@ -12,17 +12,17 @@ use Rattle.fx_outside.specs.declared.kind.HostKind.{HostKind}
 use Rattle.fx_outside.specs.declared.kind.HostKind.TheVariants as kind
 use Rattle.fx_outside.specs.Path.{Parts, parts_cmp}
 use Rattle.fx_outside.specs.Tree.{Tree, Entry}
-use Rattle.fx_store.specs.declared.limits.TheConstants.{MAX_PATH_NAMES}
+use Rattle.fx_store.specs.declared.limits.TheConstants.{MAX_PATH_NAMES, MAX_FILE_BYTES}
 use Rattle.fx_store.specs.Names.{path_cmp, is_name}
 use Rattle.fx_store.specs.Whole.{Store}
 use Rattle.fx_table.specs.declared.fault.FolderCause.{FolderCause}
 use Rattle.fx_table.specs.declared.fault.FolderCause.TheVariants.{BadName, Strange, TooLarge, BadTable}
-use Rattle.fx_folder.specs.Loads.{most_nodes, most_in_file, most_bytes}
+use Rattle.fx_folder.specs.declared.limits.TheConstants.{MAX_BYTES, MAX_NODES, MAX_TABLE}
 use Rattle.fx_table.specs.Places.{table_name, place_of}
 use Rattle.fx_table.specs.declared.line.TableLine.{TableLine}
 use Rattle.fx_table.specs.Table.{TableLink, links_among}
 use Rattle.fx_table.specs.TableLaws.{IsFirstBadLine, BeginsWith}
-use Rattle.fx_folder.specs.Deep.{Held, all_below, walked, last_name, all_bytes, unlisted, most_in_table, deep_loads}
+use Rattle.fx_folder.specs.Deep.{Held, all_below, walked, last_name, all_bytes, unlisted, deep_loads}
 
 -- an entry stands at these names below the folder, and neither is the table nor stands in it
 abbrev pub StandsBelow : Tree → Parts → Parts → Entry → Type 0
@@ -47,11 +47,11 @@ standing_before tree folder names = filter (λ (h : Held). is_lt (parts_cmp h.0 
 
 -- with the root, and those before it, it is one node too many
 abbrev pub is_one_too_many : List Held → Bool
-is_one_too_many before = nat_lt most_nodes (length before + 2)
+is_one_too_many before = nat_lt MAX_NODES (length before + 2)
 
 -- with the bytes of those before it, it has too many
 abbrev pub is_too_much : List Held → Entry → Bool
-is_too_much before e = nat_lt most_bytes (all_bytes before + length e.bytes)
+is_too_much before e = nat_lt MAX_BYTES (all_bytes before + length e.bytes)
 
 abbrev pub is_strange : HostKind → Bool
 is_strange kind.File = false
@@ -68,7 +68,7 @@ cause_of before names e =
     option_or (where_so (not (is_name (last_name names))) (BadName (place_of names)))
     (option_or (where_so (nat_lt MAX_PATH_NAMES (length names) || is_one_too_many before) (TooLarge (place_of names)))
     (option_or (where_so (is_strange e.kind) (Strange (place_of names)))
-    (where_so (nat_lt most_in_file (length e.bytes) || is_too_much before e) (TooLarge (place_of names)))))
+    (where_so (nat_lt MAX_FILE_BYTES (length e.bytes) || is_too_much before e) (TooLarge (place_of names)))))
 
 abbrev pub cause_at : Tree → Parts → Parts → Entry → Option FolderCause
 cause_at tree folder names e = cause_of (standing_before tree folder names) names e
@@ -87,7 +87,7 @@ HasNoCause tree folder = (names : Parts) (e : Entry) → StandsBelow tree folder
 
 -- with the root, all entries and these links there are too many nodes, or too many bytes in the files and link texts
 abbrev pub exceed_limits : List Held → List TableLink → Bool
-exceed_limits all links = nat_lt most_nodes (length all + 1 + length links) || nat_lt most_bytes (all_bytes all + sum_by (λ (l : TableLink). length l.text) links)
+exceed_limits all links = nat_lt MAX_NODES (length all + 1 + length links) || nat_lt MAX_BYTES (all_bytes all + sum_by (λ (l : TableLink). length l.text) links)
 
 -- lines at the front have their places, and the last of their links are too many
 pub record HasTooManyLinks (S : Store) (all : List Held) (text : List ℕ) : Type 0 where
@@ -109,7 +109,7 @@ IsLineCause S all text cause =
 -- a table is refused for the cause: it is no file, or it is too large, or its lines are refused
 abbrev pub IsFileCause : Store → List Held → HostKind → List ℕ → FolderCause → Type 0
 IsFileCause S all kind.File text cause =
-    ((most_in_table < length text) × (cause ≡ TooLarge (place_of (table_name ∷ [])))) ⊎ ((length text ≤ most_in_table) × IsLineCause S all text cause)
+    ((MAX_TABLE < length text) × (cause ≡ TooLarge (place_of (table_name ∷ [])))) ⊎ ((length text ≤ MAX_TABLE) × IsLineCause S all text cause)
 IsFileCause S all kind.Folder text cause = cause ≡ Strange (place_of (table_name ∷ []))
 IsFileCause S all kind.Other text cause = cause ≡ Strange (place_of (table_name ∷ []))
 

@@ -1,5 +1,5 @@
 -- What the table of a folder adds to what was walked.
-use Rattle.std.specs.Prelude.{◌≡◌, ℕ, ◌-◌, ◌≤◌, ◌<◌, cond, nat_lt, List, [], ◌∷◌, ◌++◌, length, Option, Some, None, Result, Ok, Err, ⊤, option_map, Vec}
+use Rattle.std.specs.Prelude.{◌≡◌, ℕ, ◌-◌, cond, nat_lt, List, [], ◌∷◌, ◌++◌, length, Some, Result, Ok, Err, ⊤, option_map, Vec}
 use Rattle.std.specs.Global.{Global}
 use Rattle.std.specs.FinMap.{get}
 use Rattle.fx_outside.specs.declared.kind.HostKind.{HostKind}
@@ -12,22 +12,17 @@ use Rattle.fx_table.specs.declared.fault.FolderCause.TheVariants.{Strange, TooLa
 use Rattle.fx_table.specs.declared.fault.LoadFault.{LoadFault}
 use Rattle.fx_table.specs.declared.fault.LoadFault.TheVariants.{Refused, ReadFault, NoMemory}
 use Rattle.fx_table.specs.declared.lines.Room.{Room}
-use Rattle.fx_folder.specs.Deep.{all_below, loaded, most_in_table}
+use Rattle.fx_folder.specs.Deep.{all_below, loaded}
 use Rattle.fx_table.specs.Listed.{listed, with_lines}
 use Rattle.fx_table.specs.Places.{place_of, table_name}
-use Rattle.fx_folder.specs.Limits.{most_nodes}
+use Rattle.fx_folder.specs.declared.limits.TheConstants.{MAX_NODES, MAX_TABLE}
 use Rattle.fx_table.specs.Lines.{lines_in, standing_by, ReadsAll}
 use Rattle.fx_table.specs.Mapped.{mapped_of}
 use Rattle.fx_table.specs.Shaped.{changes_of}
 
--- the contents of a file, if they are not more than the limit
-abbrev pub ReadsWhole : ℕ → List ℕ → Option (List ℕ) → Type 0
-ReadsWhole limit contents None = limit < length contents
-ReadsWhole limit contents (Some bytes) = (length contents ≤ limit) × (bytes ≡ contents)
-
 -- the text of a table of this kind, or why it is refused
 abbrev pub table_text_or_cause : HostKind → List ℕ → Result (List ℕ) FolderCause
-table_text_or_cause kind.File contents = cond (nat_lt most_in_table (length contents)) (Err (TooLarge (place_of (table_name ∷ [])))) (Ok contents)
+table_text_or_cause kind.File contents = cond (nat_lt MAX_TABLE (length contents)) (Err (TooLarge (place_of (table_name ∷ [])))) (Ok contents)
 table_text_or_cause kind.Folder contents = Err (Strange (place_of (table_name ∷ [])))
 table_text_or_cause kind.Other contents = Err (Strange (place_of (table_name ∷ [])))
 
@@ -40,7 +35,7 @@ AnswersText answer (Err NoMemory) = ⊤
 
 -- how much may still be loaded behind what was walked
 abbrev pub room_behind : List Change → ℕ → Room
-room_behind found left = record { links = most_nodes - length found; bytes = left }
+room_behind found left = record { links = MAX_NODES - length found; bytes = left }
 
 -- the lines of the text are set among what was found
 pub record IsJoined (found : List Change) (left : ℕ) (text : List ℕ) (joined : List Change) : Type 0 where

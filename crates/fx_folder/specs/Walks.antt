@@ -1,5 +1,6 @@
 -- What is left to walk of a folder, and what the walk has found.
-use Rattle.std.specs.Prelude.{◌≡◌, ℕ, ◌-◌, Bool, false, cond, ◌&&◌, nat_le, nat_lt, List, [], ◌∷◌, ◌++◌, map, length, bytes_eq, IfSome, Option, Some, None, Result, Ok, Err, ⊤, option_map}
+use Rattle.std.specs.Prelude.{◌≡◌, ℕ, ◌-◌, false, cond, ◌&&◌, nat_le, nat_lt, List, [], ◌∷◌, ◌++◌, map, length, IfSome, Option, Some, None, Result, Ok, Err, ⊤, option_map}
+use Rattle.std.specs.List.{AllByRecursion}
 use Rattle.std.specs.Option.{option_map_or}
 use Rattle.std.specs.FinMap.{get, entries}
 use Rattle.fx_outside.specs.declared.kind.HostKind.{HostKind}
@@ -18,18 +19,13 @@ use Rattle.fx_table.specs.declared.fault.FolderCause.{FolderCause}
 use Rattle.fx_table.specs.declared.fault.FolderCause.TheVariants.{BadName, TooLarge}
 use Rattle.fx_table.specs.declared.fault.LoadFault.{LoadFault}
 use Rattle.fx_table.specs.declared.fault.LoadFault.TheVariants.{Refused, ReadFault, NoMemory}
-use Rattle.fx_folder.specs.Limits.{most_nodes, most_bytes}
-use Rattle.fx_table.specs.Places.{table_name, place_of}
-use Rattle.fx_folder.specs.Deep.{Held, all_below, walked, all_bytes, first_refused, refused_entry, refused_bytes, node_of_kind, last_name}
+use Rattle.fx_folder.specs.declared.limits.TheConstants.{MAX_BYTES, MAX_NODES}
+use Rattle.fx_table.specs.Places.{place_of}
+use Rattle.fx_folder.specs.Deep.{Held, all_below, in_table, walked, all_bytes, first_refused, refused_entry, refused_bytes, node_of_kind, last_name}
 
 -- the names that lead to an item from the folder
 abbrev pub item_path : Item → Parts
 item_path item = item.parent ++ item.name ∷ []
-
--- these names lead to the table, or to what stands below it
-abbrev pub in_table : Parts → Bool
-in_table [] = false
-in_table (name ∷ names) = bytes_eq name table_name
 
 -- an entry of a folder, where these names lead to the folder
 abbrev pub item : Parts → List ℕ × HostKind → Item
@@ -67,8 +63,7 @@ pub record IsThere (tree : Tree) (at : Parts) (item : Item) : Type 0 where
   pub walked : in_table (item_path item) ≡ false
 
 abbrev pub AreThere : Tree → Parts → List Item → Type 0
-AreThere tree at [] = ⊤
-AreThere tree at (item ∷ items) = IsThere tree at item × AreThere tree at items
+AreThere tree at items = AllByRecursion (IsThere tree at) items
 
 -- the node of an entry: a file, or a directory whose names are still to be listed
 abbrev pub found_as : Held → Change
@@ -80,8 +75,8 @@ root_found = record { path = []; node = Some (Dir []) }
 -- of the entries of the folder these were found, and these items are left, where so many bytes may still be loaded
 pub record IsOnWay (tree : Tree) (at : Parts) (found : List Change) (left : ℕ) (todo : List Item) : Type 0 where
   pub entries : root_found ∷ map found_as (walked (all_below tree at)) ≡ found ++ map found_as (walked (ahead tree at todo))
-  pub refusal : first_refused 1 most_bytes (walked (all_below tree at)) ≡ first_refused (length found) left (walked (ahead tree at todo))
-  pub bytes : most_bytes - all_bytes (walked (all_below tree at)) ≡ left - all_bytes (walked (ahead tree at todo))
+  pub refusal : first_refused 1 MAX_BYTES (walked (all_below tree at)) ≡ first_refused (length found) left (walked (ahead tree at todo))
+  pub bytes : MAX_BYTES - all_bytes (walked (all_below tree at)) ≡ left - all_bytes (walked (ahead tree at todo))
   pub there : AreThere tree at todo
 
 -- how many bytes a change puts into a file
@@ -112,14 +107,14 @@ AddsItems told path names todo todo' = (listing : Names) × (todo' ≡ todo ++ i
 
 -- a walk is refused for the first cause
 abbrev pub WalkCause : Tree → Parts → LoadFault → Type 0
-WalkCause tree at (Refused cause) = first_refused 1 most_bytes (walked (all_below tree at)) ≡ Some cause
+WalkCause tree at (Refused cause) = first_refused 1 MAX_BYTES (walked (all_below tree at)) ≡ Some cause
 WalkCause tree at ReadFault = ⊤
 WalkCause tree at NoMemory = ⊤
 
 -- everything that a walk found, with the bytes that may still be loaded; or the first refusal
 abbrev pub AnswersWalk : Tree → Parts → Result Loader LoadFault → Type 0
-AnswersWalk tree at (Ok walk) = (first_refused 1 most_bytes (walked (all_below tree at)) ≡ None)
-    × (walk.found.items ≡ root_found ∷ map found_as (walked (all_below tree at))) × (walk.left ≡ most_bytes - all_bytes (walked (all_below tree at)))
+AnswersWalk tree at (Ok walk) = (first_refused 1 MAX_BYTES (walked (all_below tree at)) ≡ None)
+    × (walk.found.items ≡ root_found ∷ map found_as (walked (all_below tree at))) × (walk.left ≡ MAX_BYTES - all_bytes (walked (all_below tree at)))
 AnswersWalk tree at (Err fault) = WalkCause tree at fault
 
 abbrev pub IsNoRefusal : LoadFault → Type 0
@@ -130,7 +125,7 @@ IsNoRefusal NoMemory = ⊤
 -- why a path is refused, where so many nodes come before it
 abbrev pub refused_path : ℕ → Parts → Option FolderCause
 refused_path nodes names =
-    cond (is_name (last_name names)) (cond (nat_le (length names) MAX_PATH_NAMES && nat_lt nodes most_nodes) None (Some (TooLarge (place_of names)))) (Some (BadName (place_of names)))
+    cond (is_name (last_name names)) (cond (nat_le (length names) MAX_PATH_NAMES && nat_lt nodes MAX_NODES) None (Some (TooLarge (place_of names)))) (Some (BadName (place_of names)))
 
 -- the path, or the refusal that is due
 abbrev pub PassesPath : ℕ → Parts → Result Path LoadFault → Type 0

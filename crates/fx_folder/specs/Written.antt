@@ -1,5 +1,5 @@
 -- What the steps of writing a folder leave.
-use Rattle.std.specs.Prelude.{◌≡◌, ◌⊎◌, ◌≤◌, ℕ, Bool, true, cond, List, [], ◌∷◌, ◌++◌, IsSome, Option, Some, None, Result, Err, OnOk, OnErr}
+use Rattle.std.specs.Prelude.{◌≡◌, ◌⊎◌, ◌≤◌, ℕ, true, List, [], ◌∷◌, ◌++◌, IsSome, Option, Some, None, Result, Err, OnOk, OnErr}
 use Rattle.std.specs.FinMap.{get, insert, find, entries}
 use Rattle.fx_store.specs.declared.node.Node.{Node}
 use Rattle.fx_store.specs.Names.{path_cmp}
@@ -11,14 +11,15 @@ use Rattle.fx_outside.specs.Path.{Parts, parts, is_fit}
 use Rattle.fx_outside.specs.Tree.{Tree, Entry, file, folder}
 use Rattle.fx_folder.specs.Places.{host_entry}
 use Rattle.fx_table.specs.Places.{rest_of}
-use Rattle.fx_folder.specs.Folder.{IfTold, IsFrontOf}
+use Rattle.fx_folder.specs.Folder.{Out, Absent, Empty, IfTold, IsFrontOf}
 
 -- the tree with the folder itself, which is made where it is not there
-abbrev pub with_folder : Tree → Parts → Bool → Tree
-with_folder tree at there = cond there tree (insert tree at folder)
+abbrev pub with_folder : Tree → Parts → Out → Tree
+with_folder tree at Empty = tree
+with_folder tree at Absent = insert tree at folder
 
 -- the folder was made, if it had to be, or nothing was
-abbrev pub MadePart : Tree → Tree → Parts → Bool → Type 0
+abbrev pub MadePart : Tree → Tree → Parts → Out → Type 0
 MadePart tree tree' at there = (tree' ≡ tree) ⊎ (tree' ≡ with_folder tree at there)
 
 -- a folder stands at the path, with nothing below

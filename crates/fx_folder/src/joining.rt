@@ -1,5 +1,5 @@
 //! The table of a folder, and what was found with its lines.
-ghost use Rattle.std.specs.Prelude.{◌≡◌, ◌≤◌, ◌<◌, ◌∷◌, [], length, true, Ok, Err, IfOk, IfErr, IfSome, option_map};
+ghost use Rattle.std.specs.Prelude.{◌≡◌, ◌<◌, length, true, Ok, Err, IfOk, IfErr, IfSome};
 ghost use Rattle.std.specs.FinMap.{get};
 ghost use Rattle.fx_outside.specs.Host.{ReadsOnly, AsksAt, AsksIn, FaultIn};
 ghost use Rattle.fx_outside.specs.Path.{parts};
@@ -10,10 +10,12 @@ ghost use Rattle.fx_table.specs.Places.{table_name};
 ghost use Rattle.fx_table.specs.Lines.{standing_by, LinesCause};
 ghost use Rattle.fx_folder.specs.Reads.{path_below};
 ghost use Rattle.fx_table.specs.Shaped.{AreShaped};
-ghost use Rattle.fx_folder.specs.Tables.{ReadsWhole, table_text_or_cause, AnswersText, AnswersFound, HasTable, IsJoined, room_behind, items_in};
+ghost use Rattle.fx_folder.specs.Tables.{table_text_or_cause, AnswersText, AnswersFound, HasTable, IsJoined, room_behind, items_in};
 ghost use Rattle.fx_folder.specs.Walks.{AnswersWalk};
 
-use crate::loading::{MAX_NODES, TABLE, read_whole};
+use crate::limits::{MAX_NODES, MAX_TABLE};
+use crate::loading::TABLE;
+use crate::pieces::read_whole;
 use crate::saving::table_below;
 use crate::walking::Loader;
 use fx_base::NoMemory;
@@ -21,9 +23,6 @@ use fx_outside::{Host, HostKind, HostText, Listing};
 use fx_store::{Change, Changes};
 use fx_table::{FolderCause, LoadFault, Room, merged, read_lines, table_place};
 use std::alloc::Global;
-
-/// The most bytes of a table.
-const MAX_TABLE: usize = 33_554_432;
 
 /// The kind of a folder's table, if it has one.
 pub(crate) fn table_kind(alloc: Global, names: &Listing) -> Result<Option<HostKind>, NoMemory>
@@ -125,8 +124,9 @@ fn read_table_file<H: Host>(
     ensures fit { AsksAt (path_below folder.now table_name) (H.view host.old) (H.view host.new) }
 {
     let path = table_below(alloc, folder)?;
-    match read_whole(alloc, host, &path, MAX_TABLE, buf)? {
-        Some(text) => Ok(text),
-        None => Err(LoadFault::Refused(FolderCause::TooLarge(table_place(alloc)?))),
+    let text = read_whole(alloc, host, &path, MAX_TABLE, buf)?;
+    if text.len() as u64 > MAX_TABLE {
+        return Err(LoadFault::Refused(FolderCause::TooLarge(table_place(alloc)?)));
     }
+    Ok(text)
 }

@@ -1,29 +1,23 @@
 //! Folders as filestores.
-ghost use Rattle.std.specs.Prelude.{◌≡◌, ◌⊎◌, ◌+◌, ◌-◌, ◌<◌, ◌≤◌, length, true, false, min, Ok, Err, IfOk, IfErr, IfSome, option_map};
+ghost use Rattle.std.specs.Prelude.{◌≡◌, ◌⊎◌, ◌-◌, ◌<◌, ◌≤◌, length, true, false, min, Ok, Err, IfOk, IfErr, IfSome};
 ghost use Rattle.fx_outside.specs.Path.{parts};
 ghost use Rattle.fx_outside.specs.Tree.{Lists, is_folder_at, is_file_at, bytes_at};
-ghost use Rattle.fx_outside.specs.Host.{ReadsOnly, AsksAt, AsksIn, HasFailed, FaultAt, FaultIn};
-ghost use Rattle.fx_outside.specs.declared.kind.HostFault.TheVariants.{Failed};
+ghost use Rattle.fx_outside.specs.Host.{ReadsOnly, AsksAt, AsksIn, HasFailed, FaultIn};
 ghost use Rattle.fx_table.specs.declared.fault.LoadFault.TheVariants.{ReadFault, NoMemory};
-ghost use Rattle.fx_folder.specs.Tables.{ReadsWhole, AnswersFound, items_in};
+ghost use Rattle.fx_folder.specs.Tables.{AnswersFound, items_in};
 ghost use Rattle.fx_folder.specs.Loads.{loads, Loads, LoadCause, AnswersAs};
 ghost use Rattle.fx_folder.specs.Reads.{path_below, place_below, ReadsFile};
 ghost use Rattle.fx_table.specs.Shaped.{AreShaped};
 
 use crate::building::filestore_of;
 use crate::joining::{table_kind, with_table};
+use crate::pieces::{buffer, read_whole};
 use crate::walking::{Loader, walk};
-use fx_outside::{Host, HostFault, HostText, Listing};
+use fx_outside::{Host, HostText, Listing};
 use fx_store::limits::MAX_FILE_BYTES;
 use fx_store::{Bytes, Change, Filestore};
 use fx_table::{FolderCause, LoadFault};
 use std::alloc::{AllocError, Global};
-
-/// The most nodes of a loaded filestore, its root among them.
-pub(crate) const MAX_NODES: u64 = 100_000;
-
-/// The most bytes of all loaded files together.
-pub(crate) const MAX_BYTES: u64 = 67_108_864;
 
 /// How many bytes are read at once.
 const CHUNK: usize = 65_536;
@@ -98,12 +92,6 @@ fn all_of(walked: Loader) -> Vec<Change>
     found
 }
 
-fn buffer(alloc: Global, size: usize) -> Result<Vec<u8>, AllocError>
-    ensures { IfOk result (λ buf. length buf.items ≡ size) }
-{
-    vec![in alloc; 0; size]
-}
-
 /// Reads a file of a folder, unless it has more bytes than are left.
 pub(crate) fn read_file<H: Host>(
     alloc: Global,
@@ -125,41 +113,12 @@ pub(crate) fn read_file<H: Host>(
     ensures fit { AsksAt (path_below folder.now name.now) (H.view host.old) (H.view host.new) }
 {
     let path = path_below(alloc, folder, name)?;
-    let limit = left.min(MAX_FILE_BYTES as u64) as usize;
-    match read_whole(alloc, host, &path, limit, buf)? {
-        Some(bytes) => Ok(Bytes::from_vec(bytes).share(alloc)?),
-        None => Err(LoadFault::Refused(FolderCause::TooLarge(below_folder(alloc, name)?))),
+    let limit = left.min(MAX_FILE_BYTES as u64);
+    let bytes = read_whole(alloc, host, &path, limit, buf)?;
+    if bytes.len() as u64 > limit {
+        return Err(LoadFault::Refused(FolderCause::TooLarge(below_folder(alloc, name)?)));
     }
-}
-
-/// Reads a file to its end: `None` where it has more bytes than the limit.
-pub(crate) fn read_whole<H: Host>(
-    alloc: Global,
-    host: &mut H,
-    path: &HostText,
-    limit: usize,
-    buf: &mut [u8],
-) -> Result<Option<Vec<u8>>, HostFault>
-    requires room { 0 < length buf.old }
-    requires file { IfSome (H.view host.old).told (λ tree. is_file_at tree path.now ≡ true) }
-    ensures answer { IfOk result (λ bytes. IfSome (H.view host.old).told (λ tree.
-        ReadsWhole limit (bytes_at tree path.now) (option_map (λ v. v.items) bytes))) }
-    ensures short { IfOk result (λ bytes. IfSome bytes (λ v. length v.items ≤ limit)) }
-    ensures fault { result ≡ Err Failed → FaultAt path.now (H.view host.old) (H.view host.new) }
-    ensures same { ReadsOnly (H.view host.old) (H.view host.new) }
-    ensures fit { AsksAt path.now (H.view host.old) (H.view host.new) }
-{
-    let mut bytes = Vec::new(alloc);
-    loop {
-        let count = host.read(alloc, path, bytes.len() as u64, buf)?;
-        if count == 0 {
-            return Ok(Some(bytes));
-        }
-        if count > limit - bytes.len() {
-            return Ok(None);
-        }
-        bytes.extend_from_slice(&buf[..count])?;
-    }
+    Ok(Bytes::from_vec(bytes).share(alloc)?)
 }
 
 /// The host path of an entry of a folder.

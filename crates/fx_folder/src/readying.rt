@@ -8,9 +8,17 @@ use crate::fault::SaveFault;
 use fx_outside::{Host, HostKind, HostText, Standing};
 use std::alloc::Global;
 
-/// Whether an empty folder stands at the path already. Where nothing stands there, a folder can be made if one stands
-/// above.
-pub fn ready<H: Host>(alloc: Global, host: &mut H, folder: &HostText) -> Result<bool, SaveFault>
+/// What stands where a folder is to be written.
+#[derive(Clone, Copy, Debug, PartialEq, Eq)]
+pub enum Out {
+    /// Nothing: the folder can be made if one stands above.
+    Absent,
+    /// An empty folder.
+    Empty,
+}
+
+/// Sees that a folder can be written at a path.
+pub fn ready<H: Host>(alloc: Global, host: &mut H, folder: &HostText) -> Result<Out, SaveFault>
     ensures same { ReadsOnly (H.view host.old) (H.view host.new) }
     ensures fit { AsksAt folder.now (H.view host.old) (H.view host.new) }
     ensures ready { IfOk result (λ there.
@@ -18,7 +26,7 @@ pub fn ready<H: Host>(alloc: Global, host: &mut H, folder: &HostText) -> Result<
     ensures fault { IfErr result (ReadyCause folder.now (H.view host.old) (H.view host.new)) }
 {
     match host.standing(alloc, folder)? {
-        Standing::Absent => Ok(false),
+        Standing::Absent => Ok(Out::Absent),
         Standing::Is(HostKind::Folder) => find_empty(alloc, host, folder),
         Standing::Is(HostKind::File) => Err(SaveFault::NotEmpty),
         Standing::Is(HostKind::Other) => Err(SaveFault::NotEmpty),
@@ -26,7 +34,7 @@ pub fn ready<H: Host>(alloc: Global, host: &mut H, folder: &HostText) -> Result<
 }
 
 /// The folder that stands at the path is found to be empty.
-fn find_empty<H: Host>(alloc: Global, host: &mut H, folder: &HostText) -> Result<bool, SaveFault>
+fn find_empty<H: Host>(alloc: Global, host: &mut H, folder: &HostText) -> Result<Out, SaveFault>
     requires { IfSome (H.view host.old).told (λ tree. is_folder_at tree folder.now ≡ true) }
     ensures same { ReadsOnly (H.view host.old) (H.view host.new) }
     ensures fit { AsksAt folder.now (H.view host.old) (H.view host.new) }
@@ -39,7 +47,7 @@ fn find_empty<H: Host>(alloc: Global, host: &mut H, folder: &HostText) -> Result
 {
     let listing = host.list(alloc, folder)?;
     if listing.len() == 0 {
-        return Ok(true);
+        return Ok(Out::Empty);
     }
     Err(SaveFault::NotEmpty)
 }

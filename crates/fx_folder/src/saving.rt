@@ -1,11 +1,11 @@
 //! Filestores as folders.
-ghost use Rattle.std.specs.Prelude.{◌≡◌, ◌≤◌, ◌++◌, ◌∷◌, [], true, Some, Ok, Err, IfOk, IfErr, OnOk, OnErr, IfSome, IsSome};
+ghost use Rattle.std.specs.Prelude.{◌≡◌, ◌≤◌, ◌++◌, ◌∷◌, [], true, Some, Ok, Err, IfOk, IfErr, OnOk, OnErr, IfSome};
 ghost use Rattle.std.specs.FinMap.{get, entries};
 ghost use Rattle.std.specs.Str.{IsUtf8};
 ghost use Rattle.fx_store.specs.Whole.{IsWhole};
-ghost use Rattle.fx_store.specs.Names.{IsPath, IsName};
+ghost use Rattle.fx_store.specs.Names.{IsPath};
 ghost use Rattle.fx_outside.specs.Path.{parts};
-ghost use Rattle.fx_outside.specs.Host.{WritesAt, WritesIn, HasFailed, FaultAt, FaultIn};
+ghost use Rattle.fx_outside.specs.Host.{WritesAt, WritesIn, FaultAt, FaultIn};
 ghost use Rattle.fx_outside.specs.declared.kind.HostFault.TheVariants.{Failed};
 ghost use Rattle.fx_outside.specs.Tree.{is_free_at, file, folder};
 ghost use Rattle.fx_folder.specs.declared.fault.SaveFault.TheVariants.{WriteFault, NotEmpty};
@@ -19,6 +19,7 @@ ghost use Rattle.fx_folder.specs.Folder.{IsReady, IfTold, Saves, SavesPart, Save
 ghost use Rattle.fx_folder.specs.Written.{with_folder, MadePart, IsOpen, with_entry, WrotePart, HasEntries, WroteFront, file_unless_empty, PutsAt, PutsIn};
 
 use crate::SaveFault;
+use crate::readying::Out;
 use fx_base::NoMemory;
 use fx_outside::{Host, HostFault, HostText};
 use fx_store::{Filestore, LongText, Name, Node, Path};
@@ -35,7 +36,7 @@ pub fn save<H: Host>(
     alloc: Global,
     host: &mut H,
     folder: &HostText,
-    there: bool,
+    there: Out,
     store: &Filestore,
 ) -> Result<(), SaveFault>
     requires ready { IfSome (H.view host.old).told (λ tree. IsReady tree folder.now there) }
@@ -59,7 +60,7 @@ pub fn make_folder<H: Host>(
     alloc: Global,
     host: &mut H,
     folder: &HostText,
-    there: bool,
+    there: Out,
 ) -> Result<(), SaveFault>
     requires ready { IfSome (H.view host.old).told (λ tree. IsReady tree folder.now there) }
     ensures made { OnOk result (IfTold (H.view host.old).told (H.view host.new).told
@@ -70,10 +71,10 @@ pub fn make_folder<H: Host>(
     ensures later { (H.view host.old).faults ≤ (H.view host.new).faults }
     ensures fit { WritesAt folder.now (H.view host.old) (H.view host.new) }
 {
-    if there {
-        return Ok(());
+    match there {
+        Out::Empty => Ok(()),
+        Out::Absent => Ok(host.make_dir(alloc, folder)?),
     }
-    Ok(host.make_dir(alloc, folder)?)
 }
 
 /// Writes the directories and files of a filestore into an empty folder, in the order of their paths, by a walk that stands

@@ -7,11 +7,13 @@ ghost use Rattle.fx_outside.specs.Host.{ReadsOnly, AsksAt, AsksIn, FaultIn};
 ghost use Rattle.fx_store.specs.Names.{IsPath};
 ghost use Rattle.fx_table.specs.declared.fault.LoadFault.TheVariants.{ReadFault};
 ghost use Rattle.fx_table.specs.Places.{place_of};
+ghost use Rattle.fx_folder.specs.Deep.{in_table};
 ghost use Rattle.fx_folder.specs.Grown.{IsFoundNode, AreFoundChanges, IsWalking, FindsItem};
-ghost use Rattle.fx_folder.specs.Walks.{item_path, items_of, in_table, held_of, AnswersEntry, IsThere, IsEntered, AnswersWalk, WalkCause, IsNoRefusal, AddsItems, PassesPath, AnswersFile, size_of};
+ghost use Rattle.fx_folder.specs.Walks.{item_path, items_of, held_of, AnswersEntry, IsThere, IsEntered, AnswersWalk, WalkCause, IsNoRefusal, AddsItems, PassesPath, AnswersFile, size_of};
 ghost use Rattle.fx_folder.specs.Reads.{path_below};
 
-use crate::loading::{MAX_BYTES, MAX_NODES, TABLE, below_folder, path_below, read_file};
+use crate::limits::{MAX_BYTES, MAX_NODES};
+use crate::loading::{TABLE, below_folder, path_below, read_file};
 use crate::parent::Parent;
 use fx_base::NoMemory;
 use fx_outside::{Host, HostKind, HostText, Listing};

@@ -218,7 +218,7 @@ kinds_spans place [] = refl
 kinds_spans place (Gap bytes ∷ ps) = kinds_spans (place + length bytes) ps
 kinds_spans place (Lexeme bytes t ∷ ps) = ap (λ l. t ∷ l) (kinds_spans (place + length bytes) ps)
 
-pub has_tokens : (ps : List Piece) → ArePieces ps [] → HasTokens (bytes_of ps) (tokens_in ps)
+pub has_tokens : (ps : List Piece) → ArePieces ps [] → HasTokens (λ ts. ts) (bytes_of ps) (tokens_in ps)
 has_tokens ps right = (spans 0 ps, record { pieces = ps; right = right; whole = sym (append-nil (bytes_of ps)); reached = refl; found = refl }, kinds_spans 0 ps)
 
 pub tokens_join : (ps qs : List Piece) → tokens_in (ps ++ qs) ≡ tokens_in ps ++ tokens_in qs

@@ -3,7 +3,7 @@ use Rattle.std.proofs.Common.{◌≡◌, ℕ, true, List, [], ◌∷◌, ◌++�
 use Rattle.std.proofs.lemmas.Bool.{leb-true}
 use Rattle.fx_expr.specs.ShapeTree.{ShapeTree}
 use Rattle.fx_lex.specs.Kept.{kept}
-use Rattle.fx_grammar.specs.Texts.{HasTokens, HasKeptTokens}
+use Rattle.fx_grammar.specs.Texts.{HasTokens}
 use Rattle.fx_grammar.specs.Tokens.{text_tokens}
 use Rattle.fx_gen.specs.Scripts.{description}
 use Rattle.fx_gen.specs.Trees.{description_text, DescriptionStands}
@@ -37,15 +37,15 @@ bits_good = refl
 bits_tokens : map kept (tokens_in (pieces_of bits)) ≡ text_tokens description_text
 bits_tokens = refl
 
-cut : HasTokens description (tokens_in (pieces_of bits))
+cut : HasTokens (λ ts. ts) description (tokens_in (pieces_of bits))
 cut = has_tokens (pieces_of bits) (goods_at bits [] bits_good)
 
-description_tokens : HasKeptTokens description (text_tokens description_text)
+description_tokens : HasTokens (map kept) description (text_tokens description_text)
 description_tokens = (cut.0, cut.1, ap (λ ts. map kept ts) cut.2 ∙ bits_tokens)
 
 pub description_stands : DescriptionStands
 description_stands = record {
-  text = record { short = leb-true _ _ refl; tokens = description_tokens; names = refl; nested = leb-true _ _ refl };
+  text = record { short = leb-true _ _ refl; tokens = description_tokens; names = refl; nested = refl };
   shapes = record {
     defs = tt;
     root =

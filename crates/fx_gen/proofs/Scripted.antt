@@ -1,17 +1,19 @@
 -- Lines and whole scripts stand for well-shaped transactions.
-use Rattle.std.proofs.Common.{◌≡◌, ℕ, zero, suc, ◌+◌, ◌*◌, ◌<◌, ◌≤◌, ◌==◌, Bool, true, false, cond, List, [], ◌∷◌, ◌++◌, map, length, All, refl, sym, ap, ◌∙◌, subst, arith, length-append}
-use Rattle.std.specs.List.{flat_map, range_with_len}
-use Rattle.std.proofs.lemmas.Bool.{leb-true}
+use Rattle.std.proofs.Common.{◌≡◌, ℕ, zero, suc, ◌+◌, ◌*◌, ◌<◌, ◌≤◌, leb, ◌==◌, Bool, true, false, cond, List, [], ◌∷◌, ◌++◌, map, length, All, refl, sym, ap, ◌∙◌, subst, arith, length-append}
+use Rattle.std.specs.List.{list_all, flat_map, range_with_len}
+use Rattle.std.proofs.lemmas.Bool.{leb-true, and_from}
 use Rattle.std.proofs.lemmas.List.{append-nil}
 use Rattle.std.proofs.lemmas.List.Elements.{All-nil, All-cons}
+use Rattle.std.proofs.lemmas.List.Folds.{list_all-append}
 use Rattle.fx_expr.specs.ShapeTree.{ShapeTree}
 use Rattle.std.proofs.lemmas.Grind.{flat_map-append}
 use Rattle.std.proofs.lemmas.List.FromFn.{length-map-range_with_len}
 use Rattle.fx_lex.specs.Reading.{Piece, piece_bytes, ArePieces}
 use Rattle.fx_spec.specs.CommandTree.{CommandTree}
 use Rattle.fx_spec.specs.WellShaped as shaped
-use Rattle.fx_grammar.specs.Texts.{HasTokens, IsTxn, IsScript}
-use Rattle.fx_grammar.specs.Tokens.{txn_tokens, script_tokens}
+use Rattle.fx_grammar.specs.Texts.{HasTokens, IsScript}
+use Rattle.fx_grammar.specs.TokenLevels.{txn_token_levels, script_token_levels}
+use Rattle.fx_grammar.specs.Tokens.{txn_tokens, script_tokens, txn_names, script_names}
 use Rattle.fx_gen.specs.Scripts.{count_line, log_line, txn_line, kind_of, project_of, first_lines}
 use Rattle.fx_gen.specs.Draws.{draw}
 use Rattle.fx_gen.proofs.Ranges.{count_short, log_short}
@@ -37,17 +39,27 @@ log_shaped p k j = record {
   few = omega arith;
 }
 
+-- no name of the transaction is a kept word, and it is nested at most 64 deep
+record IsTxn (t : List CommandTree) : Type 0 where
+  names : txn_names t ≡ true
+  nested : list_all (λ level. leb level 64) (txn_token_levels 1 t) ≡ true
+
 count_txn : (p : ℕ) → IsTxn (count_tree p)
-count_txn p = record { names = refl; nested = leb-true _ _ refl }
+count_txn p = record { names = refl; nested = refl }
 
 log_txn : (p k j : ℕ) → IsTxn (log_tree p k j)
-log_txn p k j = record { names = refl; nested = leb-true _ _ refl }
+log_txn p k j = record { names = refl; nested = refl }
+
+one_more : (t : List CommandTree) (txns : List (List CommandTree)) → IsTxn t → list_all (λ level. leb level 64) (script_token_levels 1 txns) ≡ true → list_all (λ level. leb level 64) (script_token_levels 1 (t ∷ txns)) ≡ true
+one_more t txns txn low =
+    list_all-append (λ level. leb level 64) (txn_token_levels 1 t) (script_token_levels 1 txns) ∙ and_from _ _ txn.nested low
 
 one_txn : (text : List ℕ) (ps : List Piece) (t : List CommandTree) → length text ≤ 65536 → ArePieces ps [] → bytes_of ps ≡ text → tokens_in ps ≡ txn_tokens t → IsTxn t → IsScript text (t ∷ [])
 one_txn text ps t short right whole tokens txn = record {
   short = short;
-  tokens = subst (λ l. HasTokens l (txn_tokens t ++ [])) whole (subst (HasTokens (bytes_of ps)) (tokens ∙ sym (append-nil (txn_tokens t))) (has_tokens ps right));
-  each = All-cons IsTxn t [] txn (All-nil IsTxn);
+  tokens = subst (λ l. HasTokens (λ ts. ts) l (txn_tokens t ++ [])) whole (subst (HasTokens (λ ts. ts) (bytes_of ps)) (tokens ∙ sym (append-nil (txn_tokens t))) (has_tokens ps right));
+  names = and_from _ _ txn.names refl;
+  nested = one_more t [] txn refl;
 }
 
 pub lines_stand : LinesStand
@@ -111,9 +123,14 @@ module _ (f : ℕ → List Piece) (g : ℕ → List ℕ) (h : ℕ → List Comma
       ∙ ap (λ l. l ++ tokens_in (flat_map f (range_with_len (a + 1) n))) (lines a (omega (arith, low))).tokens
       ∙ ap (λ l. txn_tokens (h a) ++ l) (all_tokens (a + 1) n (omega (arith, low)))
 
-  all_txns : (a n : ℕ) → a + n ≤ 200 → All IsTxn (map h (range_with_len a n))
-  all_txns a zero low = All-nil IsTxn
-  all_txns a (suc n) low = All-cons IsTxn (h a) (map h (range_with_len (a + 1) n)) (lines a (omega (arith, low))).txn (all_txns (a + 1) n (omega (arith, low)))
+  all_names : (a n : ℕ) → a + n ≤ 200 → script_names (map h (range_with_len a n)) ≡ true
+  all_names a zero low = refl
+  all_names a (suc n) low = and_from _ _ (lines a (omega (arith, low))).txn.names (all_names (a + 1) n (omega (arith, low)))
+
+  all_nested : (a n : ℕ) → a + n ≤ 200 → list_all (λ level. leb level 64) (script_token_levels 1 (map h (range_with_len a n))) ≡ true
+  all_nested a zero low = refl
+  all_nested a (suc n) low =
+      one_more (h a) (map h (range_with_len (a + 1) n)) (lines a (omega (arith, low))).txn (all_nested (a + 1) n (omega (arith, low)))
 
   all_shaped : (a n : ℕ) → a + n ≤ 200 → All shaped.IsTransaction (map h (range_with_len a n))
   all_shaped a zero low = All-nil shaped.IsTransaction
@@ -133,8 +150,9 @@ module _ (f : ℕ → List Piece) (g : ℕ → List ℕ) (h : ℕ → List Comma
       let short = all_short 0 n within in
       record {
         short = omega (arith, short, low);
-        tokens = subst (λ l. HasTokens l (script_tokens (map h (range_with_len 0 n)))) (all_bytes 0 n within) (subst (HasTokens (bytes_of ps)) (all_tokens 0 n within) (has_tokens ps (all_stand 0 n within [])));
-        each = all_txns 0 n within;
+        tokens = subst (λ l. HasTokens (λ ts. ts) l (script_tokens (map h (range_with_len 0 n)))) (all_bytes 0 n within) (subst (HasTokens (λ ts. ts) (bytes_of ps)) (all_tokens 0 n within) (has_tokens ps (all_stand 0 n within [])));
+        names = all_names 0 n within;
+        nested = all_nested 0 n within;
       }
 
   whole_shaped : (n : ℕ) → n ≤ 200 → shaped.IsScript (map h (range_with_len 0 n))

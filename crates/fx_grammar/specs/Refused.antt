@@ -1,5 +1,6 @@
 -- Why a text is not one whole tree, and where.
-use Rattle.std.specs.Prelude.{◌≡◌, ◌<◌, ◌≤◌, ◌⊎◌, ℕ, true, List, [], ◌∷◌, ◌++◌, length, map}
+use Rattle.std.specs.Prelude.{◌≡◌, ◌-◌, ◌<◌, ◌≤◌, ◌⊎◌, ℕ, true, List, [], ◌∷◌, ◌++◌, length, map, slice_get}
+use Rattle.std.specs.Option.{option_map_or}
 use Rattle.fx_base.specs.Limits.{source_limit}
 use Rattle.fx_lex.specs.declared.token.Token.{Token}
 use Rattle.fx_lex.specs.declared.token.Spanned.{Spanned}
@@ -9,7 +10,6 @@ use Rattle.fx_parse.specs.declared.fault.ParseFault.{ParseFault}
 use Rattle.fx_parse.specs.declared.fault.ParseFault.TheVariants as fault
 use Rattle.fx_parse.specs.Readable.{Grammar, Stands, Begins, IsShallow, IsTooNested}
 use Rattle.fx_parse.specs.Reader.{kinds}
-use Rattle.fx_parse.specs.ReadAt.{place_left}
 use Rattle.fx_grammar.specs.Grammars.{descriptions}
 
 module _ {Tree : Type 0} (g : Grammar Tree) where
@@ -42,7 +42,7 @@ module _ {Tree : Type 0} (g : Grammar Tree) where
     pub tokens : AreTokensOf text spanned
     pub left : ℕ
     pub wrong : Wrong (kinds spanned) left
-    pub stands : place ≡ place_left (record { spanned = spanned; text_len = length text }) left
+    pub stands : place ≡ option_map_or (λ s. s.start) (slice_get spanned (length spanned - left)) (length text)
 
   -- A refusal of a text that is to be one tree and nothing else, and whose tokens are read so: it is longer than 65,536
   -- bytes; or it has no tokens, and this is the first place where none begins; or this is the place where its tokens go

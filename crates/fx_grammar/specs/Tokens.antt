@@ -1,11 +1,10 @@
 -- The tokens of descriptions and scripts, form by form; those of expressions and shapes are the parser's.
-use Rattle.std.specs.Prelude.{ℕ, Bool, true, ◌&&◌, List, [], ◌∷◌, ◌++◌}
+use Rattle.std.specs.Prelude.{ℕ, Bool, true, ◌&&◌, List, [], ◌∷◌, ◌++◌, codes}
 use Rattle.std.specs.List.{flat_map, list_all}
 use Rattle.fx_lex.specs.declared.token.Token.{Token}
 use Rattle.fx_lex.specs.declared.token.Token.TheVariants as token
 use Rattle.fx_lex.specs.declared.token.Mark.TheVariants as mark
-use Rattle.fx_parse.specs.declared.keyword.Keyword.TheVariants as keyword
-use Rattle.fx_parse.specs.Grammars.{word, opening, closing, comma, expr_tokens, shape_tokens, is_name, has_names}
+use Rattle.fx_parse.specs.Grammars.{opening, closing, comma, expr_tokens, shape_tokens, is_name, has_names}
 use Rattle.fx_expr.specs.ShapeTree.{ShapeTree}
 use Rattle.fx_spec.specs.Written.{WrittenTree, DefTree, TextTree}
 use Rattle.fx_spec.specs.CommandTree.{ActTree, CommandTree, Block, block}
@@ -27,15 +26,15 @@ listed tokens [] = []
 listed tokens (p ∷ ps) = tokens p ++ flat_map (λ q. comma ∷ tokens q) ps
 
 abbrev pub spec_tokens : WrittenTree → Tokens
-spec_tokens WrittenTree.file = word keyword.File ∷ []
-spec_tokens WrittenTree.dir = word keyword.Dir ∷ []
-spec_tokens WrittenTree.link = word keyword.Link ∷ []
+spec_tokens WrittenTree.file = token.Word (codes "file") ∷ []
+spec_tokens WrittenTree.dir = token.Word (codes "dir") ∷ []
+spec_tokens WrittenTree.link = token.Word (codes "link") ∷ []
 spec_tokens (WrittenTree.focus e s) = bracketed (expr_tokens e ++ token.Mark mark.ColonColon ∷ spec_tokens s)
 spec_tokens (WrittenTree.pair x a b) =
     token.Mark mark.LeftAngle ∷ token.Word x ∷ token.Mark mark.Colon ∷ spec_tokens a ++ comma ∷ spec_tokens b ++ token.Mark mark.RightAngle ∷ []
-spec_tokens (WrittenTree.comp s x e) = braced (spec_tokens s ++ token.Mark mark.Bar ∷ token.Word x ∷ word keyword.In ∷ expr_tokens e)
-spec_tokens (WrittenTree.opt s) = word keyword.Opt ∷ bracketed (spec_tokens s)
-spec_tokens (WrittenTree.pred e) = word keyword.Pred ∷ bracketed (expr_tokens e)
+spec_tokens (WrittenTree.comp s x e) = braced (spec_tokens s ++ token.Mark mark.Bar ∷ token.Word x ∷ token.Word (codes "in") ∷ expr_tokens e)
+spec_tokens (WrittenTree.opt s) = token.Word (codes "opt") ∷ bracketed (spec_tokens s)
+spec_tokens (WrittenTree.pred e) = token.Word (codes "pred") ∷ bracketed (expr_tokens e)
 spec_tokens (WrittenTree.call f args) = token.Word f ∷ bracketed (listed expr_tokens args)
 
 -- `NAME : shape`
@@ -51,33 +50,33 @@ abbrev pub text_tokens : TextTree → Tokens
 text_tokens t = flat_map def_tokens t.defs ++ spec_tokens t.root
 
 abbrev pub act_tokens : ActTree → Tokens
-act_tokens ActTree.into = word keyword.Into ∷ []
-act_tokens (ActTree.to e) = word keyword.To ∷ bracketed (expr_tokens e)
-act_tokens ActTree.next = word keyword.Next ∷ []
-act_tokens ActTree.prev = word keyword.Prev ∷ []
-act_tokens ActTree.out = word keyword.Out ∷ []
-act_tokens ActTree.down = word keyword.Down ∷ []
-act_tokens ActTree.up = word keyword.Up ∷ []
-act_tokens ActTree.top = word keyword.Top ∷ []
-act_tokens (ActTree.store e) = word keyword.Store ∷ bracketed (expr_tokens e)
-act_tokens ActTree.create = word keyword.Create ∷ []
-act_tokens ActTree.remove = word keyword.Remove ∷ []
+act_tokens ActTree.into = token.Word (codes "into") ∷ []
+act_tokens (ActTree.to e) = token.Word (codes "to") ∷ bracketed (expr_tokens e)
+act_tokens ActTree.next = token.Word (codes "next") ∷ []
+act_tokens ActTree.prev = token.Word (codes "prev") ∷ []
+act_tokens ActTree.out = token.Word (codes "out") ∷ []
+act_tokens ActTree.down = token.Word (codes "down") ∷ []
+act_tokens ActTree.up = token.Word (codes "up") ∷ []
+act_tokens ActTree.top = token.Word (codes "top") ∷ []
+act_tokens (ActTree.store e) = token.Word (codes "store") ∷ bracketed (expr_tokens e)
+act_tokens ActTree.create = token.Word (codes "create") ∷ []
+act_tokens ActTree.remove = token.Word (codes "remove") ∷ []
 
 abbrev mutual
   pub command_tokens : CommandTree → Tokens
   command_tokens (CommandTree.act a) = act_tokens a
-  command_tokens (CommandTree.attempt x a) = word keyword.Try ∷ token.Word x ∷ act_tokens a
-  command_tokens (CommandTree.bind x e) = word keyword.Let ∷ token.Word x ∷ token.Mark mark.Equal ∷ expr_tokens e
-  command_tokens (CommandTree.assign x e) = word keyword.Set ∷ token.Word x ∷ token.Mark mark.Equal ∷ expr_tokens e
-  command_tokens (CommandTree.fetch x s) = word keyword.Fetch ∷ token.Word x ∷ token.Mark mark.Colon ∷ shape_tokens s
-  command_tokens (CommandTree.whole x s) = word keyword.Value ∷ token.Word x ∷ token.Mark mark.Colon ∷ shape_tokens s
-  command_tokens (CommandTree.validate x) = word keyword.Validate ∷ token.Word x ∷ []
-  command_tokens (CommandTree.print e) = word keyword.Print ∷ bracketed (expr_tokens e)
+  command_tokens (CommandTree.attempt x a) = token.Word (codes "try") ∷ token.Word x ∷ act_tokens a
+  command_tokens (CommandTree.bind x e) = token.Word (codes "let") ∷ token.Word x ∷ token.Mark mark.Equal ∷ expr_tokens e
+  command_tokens (CommandTree.assign x e) = token.Word (codes "set") ∷ token.Word x ∷ token.Mark mark.Equal ∷ expr_tokens e
+  command_tokens (CommandTree.fetch x s) = token.Word (codes "fetch") ∷ token.Word x ∷ token.Mark mark.Colon ∷ shape_tokens s
+  command_tokens (CommandTree.whole x s) = token.Word (codes "value") ∷ token.Word x ∷ token.Mark mark.Colon ∷ shape_tokens s
+  command_tokens (CommandTree.validate x) = token.Word (codes "validate") ∷ token.Word x ∷ []
+  command_tokens (CommandTree.print e) = token.Word (codes "print") ∷ bracketed (expr_tokens e)
   command_tokens (CommandTree.branch e a b) =
-      word keyword.If ∷ bracketed (expr_tokens e) ++ braced (block_tokens a) ++ word keyword.Else ∷ braced (block_tokens b)
+      token.Word (codes "if") ∷ bracketed (expr_tokens e) ++ braced (block_tokens a) ++ token.Word (codes "else") ∷ braced (block_tokens b)
   command_tokens (CommandTree.each x e a) =
-      word keyword.Each ∷ token.Word x ∷ word keyword.In ∷ bracketed (expr_tokens e) ++ braced (block_tokens a)
-  command_tokens CommandTree.abort = word keyword.Abort ∷ []
+      token.Word (codes "each") ∷ token.Word x ∷ token.Word (codes "in") ∷ bracketed (expr_tokens e) ++ braced (block_tokens a)
+  command_tokens CommandTree.abort = token.Word (codes "abort") ∷ []
 
   -- commands one after another
   pub block_tokens : Block → Tokens
@@ -86,7 +85,7 @@ abbrev mutual
 
 -- `txn { .. }`
 abbrev pub txn_tokens : List CommandTree → Tokens
-txn_tokens commands = word keyword.Txn ∷ braced (block_tokens (block commands))
+txn_tokens commands = token.Word (codes "txn") ∷ braced (block_tokens (block commands))
 
 abbrev pub script_tokens : List (List CommandTree) → Tokens
 script_tokens txns = flat_map txn_tokens txns

@@ -5,8 +5,7 @@ use Rattle.fx_outside.specs.Tree.{Tree, is_file_at, is_folder_at}
 use Rattle.fx_spec.specs.CommandTree.{CommandTree}
 use Rattle.fx_command.specs.declared.status.TextFault.{TextFault}
 use Rattle.fx_inputs.specs.Inputs.{HasTexts, HasInputs, CannotRead, IsFirstRefused, HasScript, HasNoScript, HasScripts, StopsAtScript, LacksFile}
-use Rattle.fx_inputs.specs.Views.{CannotReadViews, HasViewsInputs, HasViewsTexts, ViewsFirstRefused}
-use Rattle.fx_words.specs.Job.{Inputs, ViewsJob}
+use Rattle.fx_words.specs.Job.{Inputs}
 
 -- scripts that are all read are not stopped at
 pub not_stopped : (stops : Tree → List ℕ → ℕ → Type 0) (t : Tree) (before : ℕ) (paths : List (List ℕ)) (plan : List (List (List CommandTree))) → ((path : List ℕ) (before : ℕ) (txns : List (List CommandTree)) → HasScript t path before txns → stops t path before → ⊥) → HasScripts t before paths plan → (i : ℕ) → StopsAtScript stops t before paths i → ⊥
@@ -28,15 +27,3 @@ pub can_read : (t : Tree) (inputs : Inputs) → HasInputs t inputs → CannotRea
 can_read t inputs has (inl spec) = never_both (is_file_at t inputs.spec) has.0.0.1.file spec
 can_read t inputs has (inr (inl scripts)) = not_stopped LacksFile t 0 inputs.scripts has.0.1.0 (λ path before txns read lacks. never_both (is_file_at t path) read.file lacks) has.0.1.1 scripts.1.0 scripts.1.1
 can_read t inputs has (inr (inr folder)) = never_both (is_folder_at t inputs.folder) has.1.1.0 folder.1
-
--- ---- with views
-
-pub views_none_refused : (t : Tree) (j : ViewsJob) (word : ℕ) (cause : TextFault) → HasViewsTexts t j → ViewsFirstRefused t j word cause → ⊥
-views_none_refused t j word cause has (inl first) = first.1.refused.none has.0.0.0 has.0.0.1.describes
-views_none_refused t j word cause has (inr (inl second)) = second.2.refused.none has.0.1.0 has.0.1.1.script
-views_none_refused t j word cause has (inr (inr later)) = none_refused t j.inputs word cause has.1 later.1
-
-pub can_read_views : (t : Tree) (j : ViewsJob) → HasViewsInputs t j → CannotReadViews t j → ⊥
-can_read_views t j has (inl spec) = never_both (is_file_at t j.inputs.spec) has.0.0.1.file spec
-can_read_views t j has (inr (inl views)) = never_both (is_file_at t j.views) has.0.1.1.file views.1
-can_read_views t j has (inr (inr later)) = can_read t j.inputs has.1 later.1

@@ -1,7 +1,8 @@
 -- How the order that a journal holds grows by one entry, on a told file.
-use Rattle.std.proofs.Common.{◌≡◌, ◌⊎◌, inl, inr, ⊎_elim, ℕ, ◌+◌, ◌≤◌, ◌<◌, List, [], ◌∷◌, ◌++◌, length, Option, Some, None, refl, sym, ◌∙◌, ap, subst, arith, append_assoc, length-append}
+use Rattle.std.proofs.Common.{◌≡◌, ◌⊎◌, inl, inr, ⊎_elim, ℕ, ◌+◌, ◌≤◌, ◌<◌, List, [], ◌∷◌, ◌++◌, length, Option, Some, None, Result, refl, sym, ◌∙◌, ap, subst, arith, append_assoc, length-append}
 use Rattle.std.specs.Prelude.{IfSome, IsSomeAnd}
 use Rattle.std.specs.Option.{unwrap_or}
+use Rattle.std.specs.Result.{result_ok}
 use Rattle.std.proofs.lemmas.List.{append-nil}
 use Rattle.fx_base.specs.Limits.{txn_limit}
 use Rattle.fx_base.proofs.Results.{IsSomeAnd-weaker}
@@ -28,7 +29,7 @@ spells_rested count order file image rests room left =
 -- the order that a file's bytes spell is the one with which it rests
 pub rests_as_seen : (count : ℕ) (order : List Turn) (file : File) → RestsAt count order file → count ≤ txn_limit → MayLeave file.steps file.seen → RestsAt count (order_seen file) file
 rests_as_seen count order file rests room image =
-    let same : order_seen file ≡ order = ap (λ (o : Option (List Turn)). unwrap_or o []) (spells_rested count order file file.seen rests room image) in
+    let same : order_seen file ≡ order = ap (λ (r : Result (List Turn) ℕ). unwrap_or (result_ok r) []) (spells_rested count order file file.seen rests room image) in
     subst (λ o. RestsAt count o file) (sym same) rests
 
 module _ (base : BaseTree) (order : List Turn) (turn : Turn) (add : MayJoinOrder base order turn) where

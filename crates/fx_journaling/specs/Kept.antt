@@ -1,12 +1,13 @@
 -- What a journal keeps of a run: an order of commits, from a moment of its file on.
 use Rattle.std.specs.Prelude.{◌≡◌, ◌⊎◌, ◌≤◌, ◌<◌, ℕ, true, List, [], ◌∷◌, ◌++◌, length, Option, Some, None, IfSome, IsSomeAnd}
 use Rattle.std.specs.Option.{unwrap_or}
+use Rattle.std.specs.Result.{result_ok}
 use Rattle.fx_base.specs.Causes.{Rose}
 use Rattle.fx_base.specs.Limits.{txn_limit}
 use Rattle.fx_spec.specs.Plans.{Turn}
 use Rattle.fx_spec.specs.Order.{BaseTree, IsLegal}
 use Rattle.fx_durable.specs.Disk.{File, DiskView, MayLeave, LeftSince, GoesOn, AsksChosen, moment}
-use Rattle.fx_durable.specs.Journal.{JournalView, RestsAt, Spells, spelled_order}
+use Rattle.fx_durable.specs.Journal.{JournalView, RestsAt, Spells, reading}
 
 -- the image spells this order, which is legal
 pub record SpellsLegal (base : BaseTree) (order : List Turn) (image : List ℕ) : Type 0 where
@@ -72,7 +73,7 @@ pub record MayJoinOrder (base : BaseTree) (order : List Turn) (turn : Turn) : Ty
 
 -- the order that the bytes of a file spell
 abbrev pub order_seen : File → List Turn
-order_seen file = unwrap_or (spelled_order file.seen) []
+order_seen file = unwrap_or (result_ok (reading txn_limit file.seen)) []
 
 -- the journal rests with the order that its bytes spell, as long as no append has failed
 abbrev pub RestsWhileGood : JournalView → DiskView → Type 0

@@ -1,17 +1,17 @@
 -- What generated texts stand for: nothing but want of memory keeps them from being read.
-use Rattle.std.proofs.Common.{◌≡◌, ℕ, suc, ◌+◌, ◌*◌, ◌<◌, ◌≤◌, List, [], ◌∷◌, ◌++◌, map, length, All, Option, Some, None, option_map, refl, sym, ap, ◌∙◌, subst, arith, length-append}
-use Rattle.std.specs.Prelude.{slice_get, get_or}
+use Rattle.std.proofs.Common.{◌≡◌, ℕ, ◌+◌, ◌*◌, ◌<◌, ◌≤◌, List, [], ◌∷◌, ◌++◌, length, Some, None, option_map, refl, sym, ap, ◌∙◌, subst, arith, length-append}
+use Rattle.std.specs.Prelude.{slice_get}
 use Rattle.std.specs.List.{range_with_len, sum_by}
-use Rattle.std.proofs.lemmas.List.Elements.{All-append, All-cons, All-nil, All-head, All-tail}
-use Rattle.std.proofs.lemmas.List.FromFn.{get_or-range_with_len, length-range_with_len}
+use Rattle.std.proofs.lemmas.List.Elements.{All-append, All-cons, All-nil}
+use Rattle.std.proofs.lemmas.List.FromFn.{get_or-range_with_len, get_or-map-range_with_len, length-range_with_len, length-map-range_with_len}
 use Rattle.std.proofs.lemmas.List.Sums.{sum_by_push}
 use Rattle.std.proofs.lemmas.Option.{slice_get-map, slice_get-get_or}
 use Rattle.fx_store.specs.Whole.{Nodes}
-use Rattle.fx_spec.specs.CommandTree.{CommandTree, block}
+use Rattle.fx_spec.specs.CommandTree.{CommandTree}
 use Rattle.fx_spec.specs.Order.{BaseTree}
-use Rattle.fx_spec.specs.Plans.{IsPlan}
+use Rattle.fx_spec.specs.Plans.{IsPlan, script_of}
 use Rattle.fx_spec.specs.SpecTree.{SpecTree}
-use Rattle.fx_spec.specs.WellShaped.{IsScript, IsTransaction, IsBlock}
+use Rattle.fx_spec.specs.WellShaped.{IsScript}
 use Rattle.fx_gen.specs.Notes.{nodes}
 use Rattle.fx_gen.specs.Scripts as gen
 use Rattle.fx_gen.specs.Scripts.{generated_scripts, scripts_to}
@@ -23,29 +23,44 @@ use Rattle.fx_command.specs.declared.fault.SourceFault.{SourceFault}
 use Rattle.fx_command.specs.declared.fault.SourceFault.TheVariants as source
 use Rattle.fx_command.specs.Described.{Describes, IsUndescribed}
 use Rattle.fx_command.specs.Scripted.{Scripts, IsUnscripted}
-use Rattle.fx_large_commands.specs.Base.{generated_base, plan_to, AreGenerated, IsPlanOf, IsReading}
+use Rattle.fx_command.proofs.DescriptionCauses.{no_fault}
+use Rattle.fx_command.proofs.ScriptCauses.{shaped_fit}
+use Rattle.fx_large_commands.specs.Base.{IsCaseBase, generated_base, plan_to, AreGenerated, IsReading}
 
 pub described : (text : List ℕ) → text ≡ gen.description → Describes text description_tree
-described text is = subst (λ t. Describes t description_tree) (sym is) (record { written = description_text; read = description_stands.text; shapes = description_stands.shapes; means = refl })
+described text is = subst (λ t. Describes t description_tree) (sym is) (record { written = description_text; read = description_stands.text; fits = no_fault description_text description_stands.shapes; means = refl })
 
 pub undescribed_is : (text : List ℕ) (fault : SourceFault) → text ≡ gen.description → IsUndescribed text fault → fault ≡ source.NoMemory
 undescribed_is text (source.Refused cause) is refused = absurd (refused.none description_tree (described text is))
 undescribed_is text source.NoMemory is refused = refl
 
-blocks_of : (txns : List (List CommandTree)) → IsScript txns → All (λ t. IsBlock [] (block t)) txns
-blocks_of [] all = All-nil (λ t. IsBlock [] (block t))
-blocks_of (t ∷ txns) all =
-    All-cons (λ t. IsBlock [] (block t)) t txns (All-head IsTransaction t txns all).shapes (blocks_of txns (All-tail IsTransaction t txns all))
-
 pub scripted : (text : List ℕ) (number k before : ℕ) → k < 8 → before ≤ 1400 → text ≡ gen.generated_script number k → Scripts text before (script_tree number k)
 scripted text number k before small few is =
     let stands = scripts_stand number k small in
     subst (λ t. Scripts t before (script_tree number k)) (sym is)
-    (record { read = stands.stands; shapes = blocks_of (script_tree number k) stands.shapes; few = omega (arith, few, stands.count) })
+    (record { read = stands.stands; fits = shaped_fit (script_tree number k) stands.shapes; few = omega (arith, few, stands.count) })
 
 pub unscripted_is : (text : List ℕ) (number k before : ℕ) (fault : SourceFault) → k < 8 → before ≤ 1400 → text ≡ gen.generated_script number k → IsUnscripted text before fault → fault ≡ source.NoMemory
 unscripted_is text number k before (source.Refused cause) small few is refused = absurd (refused.none (script_tree number k) (scripted text number k before small few is))
 unscripted_is text number k before source.NoMemory small few is refused = refl
+
+-- ---- the base of a case
+
+planned_count : (number : ℕ) → length (plan_to number 8) ≡ 8
+unfolding plan_to
+planned_count number = length-map-range_with_len (script_tree number) 0 8
+
+script_at : (number k : ℕ) → k < 8 → script_of (plan_to number 8) k ≡ script_tree number k
+unfolding plan_to
+script_at number k small = get_or-map-range_with_len (script_tree number) 0 8 k k [] small (omega arith)
+
+pub case_base : (number : ℕ) → IsCaseBase number (generated_base number)
+case_base number = record {
+  spec = described gen.description refl;
+  count = planned_count number;
+  scripts = λ k small. subst (λ s. Scripts (gen.generated_script number k) (200 * k) s) (sym (script_at number k small)) (scripted (gen.generated_script number k) number k (200 * k) small (omega (arith, small)) refl);
+  loaded = refl;
+}
 
 -- the text of a number's script
 pub text_at : (texts : List (List ℕ)) (number k : ℕ) → texts ≡ generated_scripts number → k < 8 → slice_get texts k ≡ Some (gen.generated_script number k)

@@ -1,5 +1,5 @@
 -- The steps of writing the texts of a case: what each leaves, and that the next may be made.
-use Rattle.std.proofs.Common.{◌≡◌, ◌⊎◌, inl, inr, ℕ, ◌+◌, ◌<◌, ◌≤◌, Bool, true, false, ◌||◌, cond, List, [], ◌∷◌, ◌++◌, length, Option, Some, None, IfSome, IfErr, IsSomeAnd, OnOk, OnErr, Result, Ok, Err, refl, sym, ◌∙◌, ap, subst, arith, append_assoc, append-nil, codes}
+use Rattle.std.proofs.Common.{◌≡◌, ◌⊎◌, inl, inr, ℕ, ◌+◌, ◌<◌, ◌≤◌, true, false, ◌||◌, cond, List, [], ◌∷◌, ◌++◌, length, Option, Some, None, IfSome, IfErr, IsSomeAnd, OnOk, OnErr, Result, Ok, Err, refl, sym, ◌∙◌, ap, subst, arith, append_assoc, append-nil, codes}
 use Rattle.std.specs.Prelude.{slice_get}
 use Rattle.std.specs.Option.{option_or}
 use Rattle.std.specs.Ordering.{is_eq, eq_by_cmp}
@@ -14,11 +14,13 @@ use Rattle.fx_store.specs.Names.{IsName, path_cmp}
 use Rattle.fx_outside.specs.Host.{HostView, LetsIn, WritesIn}
 use Rattle.fx_outside.specs.Path.{Parts, parts, parts_cmp, is_fit, above}
 use Rattle.fx_outside.specs.Tree as tree
-use Rattle.fx_outside.specs.Tree.{Tree, Entry, file, folder, entry_at, has_folder, is_free_at}
+use Rattle.fx_outside.specs.Tree.{Tree, Entry, file, folder, has_folder, is_free_at}
 use Rattle.fx_outside.proofs.Trees.{parts_total}
 use Rattle.fx_outside.proofs.Views.{writes_then, fault_in_back, fault_in_outer}
 use Rattle.fx_folder.specs.declared.fault.SaveFault.{SaveFault}
 use Rattle.fx_folder.specs.declared.fault.SaveFault.TheVariants as save
+use Rattle.fx_folder.specs.declared.readying.Out.{Out}
+use Rattle.fx_folder.specs.declared.readying.Out.TheVariants.{Absent}
 use Rattle.fx_folder.specs.Folder.{IfTold, IsReady, IsSaved, IsPartlySaved, IsFrontOf, SaveCause, LacksFolder}
 use Rattle.fx_folder.specs.Places.{host_entry}
 use Rattle.fx_folder.specs.Reads.{path_below}
@@ -230,7 +232,7 @@ texts_part c t v at was = go was.begun
             inr (next.path, begun_part c t was.before v at was.done next.rest next.path next.node (was.split ∙ ap (λ l. was.done ++ l) next.next) next.fresh was.written e whole is front added)
 
 -- the folder itself
-pub folder_part : (told told' : Option Tree) (path : List ℕ) (there : Bool) (c : Case) → IfSome told tree.IsWhole → IfSome told (λ t. IsReady t path there) → IfTold told told' (λ t u. MadePart t u (parts path) there) → IfTold told told' (λ t t'. IsPartlyWritten t t' (parts path) c)
+pub folder_part : (told told' : Option Tree) (path : List ℕ) (there : Out) (c : Case) → IfSome told tree.IsWhole → IfSome told (λ t. IsReady t path there) → IfTold told told' (λ t u. MadePart t u (parts path) there) → IfTold told told' (λ t t'. IsPartlyWritten t t' (parts path) c)
 folder_part None told' path there c whole ready made = made
 folder_part (Some t) None path there c whole ready made = made
 folder_part (Some t) (Some u) path there c whole ready (inl same) = inl same
@@ -240,26 +242,26 @@ folder_part (Some t) (Some u) path there c whole ready (inr made) =
     inr ([], subst (λ x. IsPartOfCase t x at c []) (sym made) (done_part c t (with_folder t at there) u at (([], Dir []) ∷ []) _ refl has))
 
 -- the texts are there, below what there was before the folder was made
-filled : (told told1 told2 : Option Tree) (path : List ℕ) (there : Bool) (c : Case) → IfTold told told1 (λ t u. u ≡ with_folder t (parts path) there) → IfTold told1 told2 (λ t t'. HasEntries t t' (parts path) (text_nodes c)) → IfTold told told2 (λ t t'. HasEntries t t' (parts path) (text_nodes c))
+filled : (told told1 told2 : Option Tree) (path : List ℕ) (there : Out) (c : Case) → IfTold told told1 (λ t u. u ≡ with_folder t (parts path) there) → IfTold told1 told2 (λ t t'. HasEntries t t' (parts path) (text_nodes c)) → IfTold told told2 (λ t t'. HasEntries t t' (parts path) (text_nodes c))
 filled told told1 told2 path there c made wrote =
     told_then told told1 told2 (λ t u. u ≡ with_folder t (parts path) there) (λ t t'. HasEntries t t' (parts path) (text_nodes c)) (λ t t'. HasEntries t t' (parts path) (text_nodes c)) made wrote
     (λ t u v is first has. from_old t u v (parts path) there (text_nodes c) first has)
 
-pub stopped_in_texts : (told told1 told2 : Option Tree) (path : List ℕ) (there : Bool) (c : Case) → IfTold told told1 (λ t u. u ≡ with_folder t (parts path) there) → IfTold told1 told2 (λ t t'. WroteTexts t t' (parts path) c) → IfTold told told2 (λ t t'. IsPartlyWritten t t' (parts path) c)
+pub stopped_in_texts : (told told1 told2 : Option Tree) (path : List ℕ) (there : Out) (c : Case) → IfTold told told1 (λ t u. u ≡ with_folder t (parts path) there) → IfTold told1 told2 (λ t t'. WroteTexts t t' (parts path) c) → IfTold told told2 (λ t t'. IsPartlyWritten t t' (parts path) c)
 stopped_in_texts told told1 told2 path there c made wrote =
     told_then told told1 told2 (λ t u. u ≡ with_folder t (parts path) there) (λ t t'. WroteTexts t t' (parts path) c) (λ t t'. IsPartlyWritten t t' (parts path) c) made wrote
     (λ t u v is first was. texts_part c t v (parts path) (record { done = was.done; left = was.left; split = was.split; before = was.before; written = from_old t u was.before (parts path) there was.done first was.written; begun = was.begun }))
 
 -- nothing is to be written more
-pub stopped_before_filestore : (told told1 told2 : Option Tree) (path : List ℕ) (there : Bool) (c : Case) → IfTold told told1 (λ t u. u ≡ with_folder t (parts path) there) → IfTold told1 told2 (λ t t'. HasEntries t t' (parts path) (text_nodes c)) → IfTold told told2 (λ t t'. IsPartlyWritten t t' (parts path) c)
+pub stopped_before_filestore : (told told1 told2 : Option Tree) (path : List ℕ) (there : Out) (c : Case) → IfTold told told1 (λ t u. u ≡ with_folder t (parts path) there) → IfTold told1 told2 (λ t t'. HasEntries t t' (parts path) (text_nodes c)) → IfTold told told2 (λ t t'. IsPartlyWritten t t' (parts path) c)
 stopped_before_filestore told told1 told2 path there c made wrote =
     told_map told told2 (λ t t'. HasEntries t t' (parts path) (text_nodes c)) (λ t t'. IsPartlyWritten t t' (parts path) c) (filled told told1 told2 path there c made wrote)
     (λ t u has. inr ([], done_part c t u u (parts path) (text_nodes c) [] (sym (append-nil (text_nodes c))) has))
 
 -- nothing stands where the folder of the filestore is to be
-pub inner_ready : (told1 told2 : Option Tree) (path : List ℕ) (c : Case) → IfSome told1 (λ t. IsOpen t path) → IfTold told1 told2 (λ t t'. HasEntries t t' (parts path) (text_nodes c)) → IfSome told2 (λ t. IsReady t (path_below path inner) false)
+pub inner_ready : (told1 told2 : Option Tree) (path : List ℕ) (c : Case) → IfSome told1 (λ t. IsOpen t path) → IfTold told1 told2 (λ t t'. HasEntries t t' (parts path) (text_nodes c)) → IfSome told2 (λ t. IsReady t (path_below path inner) Absent)
 inner_ready told1 told2 path c open_ wrote =
-    told_next told1 told2 (λ t. IsOpen t path) (λ t t'. HasEntries t t' (parts path) (text_nodes c)) (λ t. IsReady t (path_below path inner) false) open_ wrote
+    told_next told1 told2 (λ t. IsOpen t path) (λ t t'. HasEntries t t' (parts path) (text_nodes c)) (λ t. IsReady t (path_below path inner) Absent) open_ wrote
     (λ t u is has.
     let fit = fit_below path inner is.fit inner_named in
     let none : get u (parts (path_below path inner)) ≡ None = ap (get u) (parts_below path inner inner_named) ∙ has.inside (inner ∷ []) ∙ ap host_entry (no_text c []) in
@@ -277,25 +279,25 @@ inner_above (Some t) (Some u) path c has lacks =
     let both : true ≡ false = sym there ∙ lacks in
     cc
 
-pub case_all : {E : Type 0} (r : Result (Unit {0}) E) (told told1 told2 told3 : Option Tree) (path : List ℕ) (there : Bool) (c : Case) → IfTold told told1 (λ t u. u ≡ with_folder t (parts path) there) → IfTold told1 told2 (λ t t'. HasEntries t t' (parts path) (text_nodes c)) → OnOk r (IfTold told2 told3 (λ t t'. IsSaved t t' (parts (path_below path inner)) c.nodes)) → OnOk r (IfTold told told3 (λ t t'. IsCaseWritten t t' (parts path) c))
+pub case_all : {E : Type 0} (r : Result (Unit {0}) E) (told told1 told2 told3 : Option Tree) (path : List ℕ) (there : Out) (c : Case) → IfTold told told1 (λ t u. u ≡ with_folder t (parts path) there) → IfTold told1 told2 (λ t t'. HasEntries t t' (parts path) (text_nodes c)) → OnOk r (IfTold told2 told3 (λ t t'. IsSaved t t' (parts (path_below path inner)) c.nodes)) → OnOk r (IfTold told told3 (λ t t'. IsCaseWritten t t' (parts path) c))
 case_all (Err e) told told1 told2 told3 path there c made wrote saved = tt
 case_all (Ok done) told told1 told2 told3 path there c made wrote saved =
     told_then told told2 told3 (λ t t'. HasEntries t t' (parts path) (text_nodes c)) (λ t t'. IsSaved t t' (parts (path_below path inner)) c.nodes) (λ t t'. IsCaseWritten t t' (parts path) c) (filled told told1 told2 path there c made wrote) saved
     (λ t u v at has all. case_written c t u v (parts path) has (subst (λ p. IsSaved u v p c.nodes) (parts_below path inner inner_named) all))
 
-pub case_stopped : {E : Type 0} (r : Result (Unit {0}) E) (told told1 told2 told3 : Option Tree) (path : List ℕ) (there : Bool) (c : Case) → IfTold told told1 (λ t u. u ≡ with_folder t (parts path) there) → IfTold told1 told2 (λ t t'. HasEntries t t' (parts path) (text_nodes c)) → OnErr r (IfTold told2 told3 (λ t t'. IsPartlySaved t t' (parts (path_below path inner)) c.nodes)) → OnErr r (IfTold told told3 (λ t t'. IsPartlyWritten t t' (parts path) c))
+pub case_stopped : {E : Type 0} (r : Result (Unit {0}) E) (told told1 told2 told3 : Option Tree) (path : List ℕ) (there : Out) (c : Case) → IfTold told told1 (λ t u. u ≡ with_folder t (parts path) there) → IfTold told1 told2 (λ t t'. HasEntries t t' (parts path) (text_nodes c)) → OnErr r (IfTold told2 told3 (λ t t'. IsPartlySaved t t' (parts (path_below path inner)) c.nodes)) → OnErr r (IfTold told told3 (λ t t'. IsPartlyWritten t t' (parts path) c))
 case_stopped (Ok done) told told1 told2 told3 path there c made wrote part = tt
 case_stopped (Err e) told told1 told2 told3 path there c made wrote part =
     told_then told told2 told3 (λ t t'. HasEntries t t' (parts path) (text_nodes c)) (λ t t'. IsPartlySaved t t' (parts (path_below path inner)) c.nodes) (λ t t'. IsPartlyWritten t t' (parts path) c) (filled told told1 told2 path there c made wrote) part
     (λ t u v at has some. case_part c t u v (parts path) has (subst (λ p. IsPartlySaved u v p c.nodes) (parts_below path inner inner_named) some))
 
 -- the folder of the filestore is not written whole: the host failed in it, since a folder stands above
-pub inner_cause : (r : Result (Unit {0}) SaveFault) (a b d e : HostView) (path : List ℕ) (there : Bool) (c : Case) → a.faults ≤ d.faults → IfTold b.told d.told (λ t t'. HasEntries t t' (parts path) (text_nodes c)) → IfErr r (SaveCause (path_below path inner) false d e) → IfErr r (SaveCause path there a e)
+pub inner_cause : (r : Result (Unit {0}) SaveFault) (a b d e : HostView) (path : List ℕ) (there : Out) (c : Case) → a.faults ≤ d.faults → IfTold b.told d.told (λ t t'. HasEntries t t' (parts path) (text_nodes c)) → IfErr r (SaveCause (path_below path inner) Absent d e) → IfErr r (SaveCause path there a e)
 inner_cause (Ok done) a b d e path there c later wrote cause = tt
 inner_cause (Err save.WriteFault) a b d e path there c later wrote (inl fault) = inl (fault_in_back path a d e later (fault_in_outer path inner d e fault))
 inner_cause (Err save.WriteFault) a b d e path there c later wrote (inr lacks) = absurd (inner_above b.told d.told path c wrote (lacking d.told lacks))
   where
-    lacking : (told : Option Tree) → IsSomeAnd told (λ t. LacksFolder t (path_below path inner) false) → IsSomeAnd told (λ t. has_folder t (above (parts (path_below path inner))) ≡ false)
+    lacking : (told : Option Tree) → IsSomeAnd told (λ t. LacksFolder t (path_below path inner) Absent) → IsSomeAnd told (λ t. has_folder t (above (parts (path_below path inner))) ≡ false)
     lacking None none = none
     lacking (Some t) lacks = lacks.1
 inner_cause (Err save.NotEmpty) a b d e path there c later wrote cause = absurd cause

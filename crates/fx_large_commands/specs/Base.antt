@@ -1,13 +1,22 @@
 -- The base of a number: the description and the transactions for which its texts stand, and its filestore.
-use Rattle.std.specs.Prelude.{◌≡◌, ℕ, ◌*◌, List, map, length}
+use Rattle.std.specs.Prelude.{◌≡◌, ℕ, ◌*◌, ◌<◌, List, map, length}
 use Rattle.std.specs.List.{range_with_len, sum_by}
 use Rattle.fx_spec.specs.CommandTree.{CommandTree}
-use Rattle.fx_spec.specs.Plans.{IsPlan}
+use Rattle.fx_spec.specs.Plans.{IsPlan, script_of}
 use Rattle.fx_spec.specs.Order.{BaseTree, IsComplete}
 use Rattle.fx_board.specs.Log.{Log}
 use Rattle.fx_gen.specs.Notes.{nodes}
-use Rattle.fx_gen.specs.Scripts.{generated_scripts}
+use Rattle.fx_gen.specs.Scripts.{description, generated_script, generated_scripts}
 use Rattle.fx_gen.specs.Trees.{description_tree, script_tree}
+use Rattle.fx_command.specs.Described.{Describes}
+use Rattle.fx_command.specs.Scripted.{Scripts}
+
+-- the texts of the number's case stand for this base, which begins with its filestore
+pub record IsCaseBase (number : ℕ) (base : BaseTree) : Type 0 where
+  pub spec : Describes description base.description
+  pub count : length base.plan ≡ 8
+  pub scripts : (k : ℕ) → k < 8 → Scripts (generated_script number k) (200 * k) (script_of base.plan k)
+  pub loaded : base.loaded ≡ nodes number
 
 -- the first n scripts
 unfoldable pub plan_to : ℕ → ℕ → List (List (List CommandTree))

@@ -1,19 +1,20 @@
--- What `large` makes of its words, a number and OUT: the last filestore of a run of the number's base, and its summary.
-use Rattle.std.specs.Prelude.{ℕ, List, length}
-use Rattle.fx_outside.specs.Path.{parts}
-use Rattle.fx_folder.specs.Folder.{IsSaved, IsPartlySaved}
-use Rattle.fx_spec.specs.Order.{IsComplete, state}
+-- What `large` makes of its words, a number and OUT: the last filestore of a run of the number's case, and its summary.
+use Rattle.std.specs.Prelude.{◌≡◌, ℕ, List, length}
+use Rattle.fx_store.specs.Whole.{Nodes}
+use Rattle.fx_spec.specs.Order.{BaseTree, IsComplete, state}
 use Rattle.fx_spec.specs.Plans.{Turn}
-use Rattle.fx_command.specs.Table.{Making}
+use Rattle.fx_command.specs.Table.{Making, leaving_folder}
+use Rattle.fx_large_commands.specs.Base.{IsCaseBase}
 use Rattle.fx_large_commands.specs.Summary.{summary}
-use Rattle.fx_large_commands.specs.Base.{generated_base}
 
--- it may come to any complete order: the folder is that of the filestore after all of its transactions
-abbrev pub large_making : ℕ → List ℕ → Making (List Turn)
-large_making number out = record {
-  out = out;
-  comes = λ o t. IsComplete (generated_base number) o;
-  stands = λ o t t'. IsSaved t t' (parts out) (state (generated_base number) o (length o));
-  begun = λ o t t'. IsPartlySaved t t' (parts out) (state (generated_base number) o (length o));
-  prints = summary (generated_base number);
-}
+-- the filestore after all transactions of some complete order, and the summary of that order
+pub record IsLargeOutcome (number : ℕ) (nodes : Nodes) (output : List ℕ) : Type 0 where
+  pub base : BaseTree
+  pub order : List Turn
+  pub begins : IsCaseBase number base
+  pub complete : IsComplete base order
+  pub last : nodes ≡ state base order (length order)
+  pub printed : output ≡ summary base order
+
+abbrev pub large_making : ℕ → List ℕ → Making (Nodes × List ℕ)
+large_making number out = leaving_folder out (λ t nodes output. IsLargeOutcome number nodes output)

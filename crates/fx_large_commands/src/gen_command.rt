@@ -10,6 +10,7 @@ ghost use Rattle.fx_large_commands.specs.GenRows.{gen_making};
 
 use crate::writing::write_case;
 use fx_command::{Status, print_all, ready_out};
+use fx_folder::Out;
 use fx_gen::{Generated, generate};
 use fx_outside::{Host, HostText, Sink};
 use std::alloc::Global;
@@ -19,7 +20,7 @@ fn write_and_print<H: Host, S: Sink>(
     alloc: Global,
     number: u32,
     path: &HostText,
-    there: bool,
+    there: Out,
     case: &Generated,
     host: &mut H,
     out: &mut S,

@@ -14,6 +14,7 @@ use crate::lines::summary;
 use fx_base::NoMemory;
 use fx_board::Board;
 use fx_command::{Status, ready_out, save_and_print};
+use fx_folder::Out;
 use fx_machine::let_go;
 use fx_outside::{Gate, Host, HostText, Sink};
 use fx_store::LongText;
@@ -42,7 +43,7 @@ fn leave<H: Host, S: Sink>(
     alloc: Global,
     number: u32,
     path: &HostText,
-    there: bool,
+    there: Out,
     board: &Board,
     output: &LongText,
     host: &mut H,

@@ -12,7 +12,7 @@ ghost use Rattle.fx_large_commands.specs.Case.{case_in, script_name, IsCaseWritt
 ghost use Rattle.fx_large_commands.specs.Wrote.{text_nodes, WroteTexts};
 
 use fx_base::NoMemory;
-use fx_folder::{SaveFault, make_folder, save, write_file};
+use fx_folder::{Out, SaveFault, make_folder, save, write_file};
 use fx_gen::Generated;
 use fx_outside::{Host, HostText};
 use std::alloc::Global;
@@ -27,7 +27,7 @@ pub(crate) fn write_case<H: Host>(
     alloc: Global,
     host: &mut H,
     path: &HostText,
-    there: bool,
+    there: Out,
     case: &Generated,
 ) -> Result<(), SaveFault>
     requires ready { IfSome (H.view host.old).told (λ t. IsReady t path.now there) }
@@ -42,7 +42,7 @@ pub(crate) fn write_case<H: Host>(
     make_folder(alloc, host, path, there)?;
     write_texts(alloc, host, path, case)?;
     let inside = place_below(alloc, path, "in")?;
-    save(alloc, host, &inside, false, &case.store)
+    save(alloc, host, &inside, Out::Absent, &case.store)
 }
 
 /// Writes the texts of a case into an empty folder.

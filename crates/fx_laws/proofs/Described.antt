@@ -10,7 +10,8 @@ use Rattle.fx_lex.specs.declared.token.Mark.TheVariants as mark
 use Rattle.fx_lex.specs.declared.token.Token.TheVariants as token
 use Rattle.fx_parse.specs.declared.keyword.Keyword.{Keyword}
 use Rattle.fx_parse.specs.declared.keyword.Keyword.TheVariants as keyword
-use Rattle.fx_parse.specs.Grammars.{word, closing, comma, expr_tokens, is_name, has_names}
+use Rattle.fx_parse.specs.Keywords.{word}
+use Rattle.fx_parse.specs.Grammars.{closing, comma, expr_tokens, is_name, has_names}
 use Rattle.fx_spec.specs.Written.{WrittenTree, DefTree}
 use Rattle.fx_grammar.specs.Tokens.{Tokens, listed, spec_tokens, param_tokens, def_tokens, text_tokens, spec_names, param_names, def_names, text_names}
 use Rattle.fx_laws.specs.TokenLaws.{HasOneReading}

@@ -14,7 +14,7 @@ use Rattle.fx_text.proofs.Chosen.{has_least, has_above, has_below}
 use Rattle.fx_spec.specs.declared.refusal.Refusal.{Refusal}
 use Rattle.fx_spec.specs.SpecTree.{SpecTree}
 use Rattle.fx_spec.specs.Describe.{Bindings, with_some, exists, focus_path, arguments, argument_evals, behind, value}
-use Rattle.fx_spec.specs.Move.{Answered, unrefused, needed, at_place, then_step, element, this_if, chosen, with_arguments, go_into, go_to, go_down, another, go_next, go_prev, go_out, go_up}
+use Rattle.fx_spec.specs.Move.{Answered, unrefused, needed, at_place, then_step, element, chosen, with_arguments, go_into, go_to, go_down, another, go_next, go_prev, go_out, go_up}
 use Rattle.fx_spec.specs.Place.{Step, First, Second, Inside, Down, Body, Elem, Address, PlaceTree, placed, where_true, has_element, at_path, in_body, lead, place}
 use Rattle.fx_spec.specs.Transaction.{from_place}
 use Rattle.fx_laws.specs.Moved.{LeadsToPlace, MovesLeadToPlaces, MovesAreUndone}
@@ -39,10 +39,10 @@ data Descends (S : Store) (a : Address) (p : List (List ℕ)) (env : Bindings) (
 
 -- ---- elements of sets
 
-this_in : (t u : List ℕ) (ts : List (List ℕ)) → this_if t (has_text t ts) ≡ Some u → has_text u ts ≡ true
+this_in : (t u : List ℕ) (ts : List (List ℕ)) → where_true (has_text t ts) t ≡ Some u → has_text u ts ≡ true
 this_in t u ts e = by (has_text t ts) refl e
   where
-    by : (b : Bool) → has_text t ts ≡ b → this_if t b ≡ Some u → has_text u ts ≡ true
+    by : (b : Bool) → has_text t ts ≡ b → where_true b t ≡ Some u → has_text u ts ≡ true
     by true is e = let same : t ≡ u = cc in subst (λ v. has_text v ts ≡ true) same is
     by false is e = cc
 
@@ -103,7 +103,7 @@ to_steps S t a p env (SpecTree.pair x s u) b e = cc
 to_steps S t a p env (SpecTree.opt s) b e = cc
 to_steps S t a p env (SpecTree.call args params s) b e = cc
 to_steps S t a p env (SpecTree.last args params) b e = cc
-to_steps S t a p env (SpecTree.comp s x set) b e = comp_steps S a p env s x set (λ set. this_if t (has_text t set)) (λ ts u h. this_in t u ts h) b e
+to_steps S t a p env (SpecTree.comp s x set) b e = comp_steps S a p env s x set (λ set. where_true (has_text t set) t) (λ ts u h. this_in t u ts h) b e
 
 down_steps : (S : Store) (a : Address) (p : List (List ℕ)) (env : Bindings) (s : SpecTree) (b : Address) → answer S (go_down a p env s) ≡ Ok b → Descends S a p env s b
 down_steps S a p env SpecTree.file b e = cc

@@ -1,11 +1,10 @@
 -- A transaction's variables keep the shapes that its names have.
-use Rattle.std.proofs.Common.{◌≡◌, ℕ, ◌+◌, Bool, true, false, cond, List, [], ◌∷◌, ◌++◌, length, take, Option, Some, None, Ok, Err, refl, ap, ◌∙◌, sym, subst, append-nil, append_assoc, is_some}
-use Rattle.std.specs.Prelude.{IfOk, nat_eq, pos}
-use Rattle.std.specs.Cmp.Lexicographic.{pointwise}
+use Rattle.std.proofs.Common.{◌≡◌, ℕ, ◌+◌, Bool, true, false, cond, List, [], ◌∷◌, ◌++◌, length, take, Option, Some, None, Ok, Err, refl, sym, subst, append-nil, append_assoc, is_some}
+use Rattle.std.specs.Prelude.{IfOk, pos}
 use Rattle.fx_store.specs.Rule.{Ask, Answer, answer}
 use Rattle.fx_store.specs.Whole.{Store}
 use Rattle.fx_store.proofs.Asks.{answer-bind}
-use Rattle.fx_expr.specs.Bindings.{bind, bound, newer_or, assigned, assign_or, own_assigned, first_some, or_same}
+use Rattle.fx_expr.specs.Bindings.{bind, bound}
 use Rattle.fx_expr.specs.Eval.{Outcome, eval_of, names_in, truth_in}
 use Rattle.fx_expr.specs.ShapeTree.{ShapeTree}
 use Rattle.fx_expr.specs.Shapes.{ValueHas, BindingsHave}

@@ -1,11 +1,10 @@
 -- What is evaluated over values that can be stored can be stored.
-use Rattle.std.proofs.Common.{◌≡◌, ℕ, zero, suc, ◌+◌, ◌<◌, ◌≤◌, ◌^◌, ℤ, pos, ◌+ℤ◌, ◌-ℤ◌, Bool, true, false, cond, not, nat_le, nat_lt, nat_eq, List, [], ◌∷◌, ◌++◌, map, length, Option, Some, None, Ok, Err, refl, sym, ap, subst, ◌∙◌, arith, length-append}
-use Rattle.std.specs.declared.cmp.Ordering.{Ordering}
+use Rattle.std.proofs.Common.{◌≡◌, ℕ, suc, ◌+◌, ◌<◌, ◌≤◌, ◌^◌, ℤ, ◌+ℤ◌, ◌-ℤ◌, Bool, true, false, cond, not, nat_le, nat_lt, nat_eq, List, [], ◌∷◌, ◌++◌, map, length, Option, Some, None, Ok, Err, refl, sym, ap, subst, ◌∙◌, arith, length-append}
 use Rattle.std.specs.declared.cmp.Ordering.TheVariants.{Less, Equal, Greater}
 use Rattle.std.specs.Cmp.Lexicographic.{pointwise, slice_cmp}
 use Rattle.std.specs.Fmt.{signed_decimal}
 use Rattle.std.specs.List.{All, filter, list_all, slice_split, onto_first}
-use Rattle.std.specs.Option.{unwrap_or}
+use Rattle.std.specs.Option.{unwrap_or, option_or}
 use Rattle.std.specs.Ordering.{nat_cmp, match_ordering}
 use Rattle.std.proofs.lemmas.Bool.{leb-true, lt-ltb, and_parts}
 use Rattle.std.proofs.lemmas.Fmt.{IsAscii-signed}
@@ -24,18 +23,18 @@ use Rattle.fx_store.proofs.Asks.{answer-bind}
 use Rattle.fx_store.proofs.PathLists.{name_bytes}
 use Rattle.fx_text.specs.declared.set.TheConstants.{UNION_LIMIT}
 use Rattle.fx_text.specs.declared.text.TheConstants.{TEXT_LIMIT}
-use Rattle.fx_text.specs.Sets.{IsAscending, has_text, with_text, set_of, without, weight}
+use Rattle.fx_text.specs.Sets.{has_text, with_text, set_of, weight}
 use Rattle.fx_text.proofs.Canon.{ascending_set}
 use Rattle.fx_text.proofs.Order.{ascending_one, ascending_none}
 use Rattle.fx_text.proofs.Putting.{set_again}
 use Rattle.fx_expr.specs.declared.expr.BinOp.{BinOp}
 use Rattle.fx_expr.specs.declared.expr.UnOp.{UnOp}
 use Rattle.fx_expr.specs.declared.fault.ExprFault.TheVariants.{TooLong, Overflow, NotNumber}
-use Rattle.fx_expr.specs.Bindings.{bound, newer_or}
+use Rattle.fx_expr.specs.Bindings.{bound}
 use Rattle.fx_expr.specs.Eval.{Outcome, text_in, integer_in, truth_in, names_in, first_in, second_in, entries_in, size_in, joined, fits_64, in_range, united, pieces, without_line_feed, is_numeral, numeral_value, spells_64, read_integer, decided, two, one, then_on, unless, eval_of}
 use Rattle.fx_expr.specs.ExprTree.{ExprTree}
 use Rattle.fx_expr.specs.Globs.{glob_matches}
-use Rattle.fx_expr.specs.Tree.{Tree, TreeRows, no_rows, row, entries}
+use Rattle.fx_expr.specs.Tree.{Tree}
 use Rattle.fx_expr.proofs.Numerals.{fits_back, decimal_short}
 use Rattle.fx_expr.specs.ShapeTree.{ShapeTree}
 use Rattle.fx_spec.specs.declared.refusal.Refusal.{Refusal}
@@ -327,7 +326,7 @@ bound_within (b ∷ newer) word all = by (bound newer word) (bound_within newer 
     own true = All-head HasGood b newer all
     own false = tt
 
-    by : (o : Option Tree) → IsWithin (unwrap_or o (Tree.bool false)) → IsWithin (unwrap_or (newer_or o (cond (pointwise nat_eq b.0 word) (Some b.1) None)) (Tree.bool false))
+    by : (o : Option Tree) → IsWithin (unwrap_or o (Tree.bool false)) → IsWithin (unwrap_or (option_or o (cond (pointwise nat_eq b.0 word) (Some b.1) None)) (Tree.bool false))
     by None h = own (pointwise nat_eq b.0 word)
     by (Some v) h = h
 

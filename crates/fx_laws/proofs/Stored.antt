@@ -4,7 +4,7 @@ use Rattle.std.proofs.lemmas.Bool.{true≢false, ltb-true, or_left, or_right}
 use Rattle.std.proofs.lemmas.List.Folds.{list_any-append}
 use Rattle.std.specs.Cmp.Lexicographic.{pointwise}
 use Rattle.std.specs.List.{list_all}
-use Rattle.std.specs.Option.{IfSome, IsSome, unwrap_or}
+use Rattle.std.specs.Option.{IfSome, IsSome, unwrap_or, option_or}
 use Rattle.std.specs.Ordering.{eq_by_cmp}
 use Rattle.fx_base.proofs.Names.{name_itself}
 use Rattle.fx_base.proofs.Orders.{bytes_itself}
@@ -21,7 +21,7 @@ use Rattle.fx_store.specs.Resolve.{resolve, lands, ◌/ₚ◌}
 use Rattle.fx_store.specs.Rule.{Ask, Answer, Look, Tick, answer, ◌>>=◌}
 use Rattle.fx_store.specs.Whole.{Store, IsNode, over}
 use Rattle.fx_store.proofs.Asks.{answer-bind}
-use Rattle.fx_expr.specs.Bindings.{bind, bound, newer_or}
+use Rattle.fx_expr.specs.Bindings.{bind, bound}
 use Rattle.fx_expr.specs.Eval.{eval_of}
 use Rattle.fx_expr.specs.ExprTree.{ExprTree}
 use Rattle.fx_expr.specs.Sets.{set_of}
@@ -200,7 +200,7 @@ same_store_changes_nothing root e s S same i = store_leaves S root i e s same.va
 -- the newest binding of a word is its own
 bound_own : (env : Bindings) (x : List ℕ) (v : Tree) → bound (bind env x v) x ≡ Some v
 bound_own [] x v = ap (λ b. cond b (Some v) None) (bytes_itself x)
-bound_own (e ∷ env) x v = ap (λ o. newer_or o (cond (pointwise nat_eq e.0 x) (Some e.1) None)) (bound_own env x v)
+bound_own (e ∷ env) x v = ap (λ o. option_or o (cond (pointwise nat_eq e.0 x) (Some e.1) None)) (bound_own env x v)
 
 -- what is landed on holds the value
 landed_there : (S : Store) (held : Option Node → Option Tree) (l : Landing) (v : Tree) → answer S (landed_value held l) ≡ Some v → (q : List (List ℕ)) × (l ≡ At q) × (held (S q) ≡ Some v)

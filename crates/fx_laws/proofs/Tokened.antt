@@ -5,8 +5,9 @@ use Rattle.fx_lex.specs.declared.token.Mark.{Mark}
 use Rattle.fx_lex.specs.declared.token.Token.{Token}
 use Rattle.fx_lex.specs.declared.token.Token.TheVariants as token
 use Rattle.fx_parse.specs.declared.keyword.Keyword.{Keyword}
-use Rattle.fx_parse.specs.Keywords.{keyword_of}
-use Rattle.fx_parse.specs.Grammars.{word, comma, is_name}
+use Rattle.fx_parse.specs.Keywords.{keyword_of, word}
+use Rattle.fx_parse.specs.Grammars.{comma, is_name}
+use Rattle.fx_parse.proofs.Finds.{is_no_keyword}
 use Rattle.fx_parse.proofs.KeywordLaws.{keyword_again}
 use Rattle.fx_grammar.specs.Tokens.{Tokens}
 
@@ -48,7 +49,7 @@ number_word keys marks k = ap (by_word keys) (keyword_again k)
 
 -- a name has none
 pub number_name : (keys : Keyword → ℕ) (marks : Mark → ℕ) (w : List ℕ) → is_name w ≡ true → number keys marks (token.Word w) ≡ 0
-number_name keys marks w is = none_of (keyword_of w) is
+number_name keys marks w is = none_of (keyword_of w) (sym (is_no_keyword w) ∙ is)
   where
     none_of : (o : Option Keyword) → is_none o ≡ true → by_word keys o ≡ 0
     none_of None is = refl

@@ -1,17 +1,17 @@
 -- Words that ask for a job are the job's.
-use Rattle.std.proofs.Common.{◌≡◌, ℕ, zero, suc, ◌+◌, ◌^◌, ◌<◌, Bool, true, false, cond, ◌&&◌, List, [], ◌∷◌, map, length, Option, Some, None, ◌⊎◌, inl, inr, refl, ap, sym, subst, ◌∙◌, arith}
-use Rattle.std.specs.Prelude.{codes, nat_lt}
+use Rattle.std.proofs.Common.{◌≡◌, ℕ, ◌^◌, ◌<◌, Bool, true, false, cond, List, [], ◌∷◌, map, length, Option, Some, None, ◌⊎◌, inl, inr, refl, ap, sym, subst, ◌∙◌, arith}
+use Rattle.std.specs.Prelude.{codes}
 use Rattle.std.specs.Fmt.{decimal}
 use Rattle.std.specs.List.{join_with_byte, slice_split}
 use Rattle.std.specs.Option.{option_map, option_and_then}
 use Rattle.std.specs.Str.{bytes_eq}
-use Rattle.std.specs.Str.Parse.{digits_value}
-use Rattle.std.proofs.lemmas.Bool.{and_parts}
 use Rattle.std.proofs.lemmas.List.Splits.{length-slice_split, join_with_byte-slice_split}
 use Rattle.fx_base.proofs.Results.{chosen_some}
 use Rattle.fx_base.proofs.Orders.{nat_list_exact}
-use Rattle.fx_words.specs.Forms.{word_of, commands, named_in, command_named, is_count, is_count_with_views}
-use Rattle.fx_words.specs.Job.{Plain, Scheduled, Watched, RunJob, ShowJob, GenJob, AuditJob, JournalJob, RecoverJob, ViewsJob, Job, Run, Show, Gen, Large, Audit, Journal, Recover, Views, numbered, shell_named, shells_named, is_comma, schedule_of, are_plain, run_job, scheduled_job, audit_job, journal_job, recover_job, views_job, show_job, decimal_number, gen_job, command_job, named_job}
+use Rattle.fx_words.specs.Forms.{word_of, commands, named_in, command_named, command_job}
+use Rattle.fx_words.specs.Job.{Plain, Scheduled, Watched, Inputs, RunJob, GenJob, AuditJob, JournalJob, RecoverJob, ViewsJob, Job, Run, Show, Gen, Large, Audit, Journal, Recover, Views, shells_named, is_comma, schedule_of, is_within, are_plain, run_job, scheduled_job, audit_job, journal_job, recover_job, views_job, show_job, decimal_number, gen_job, named_job}
+use Rattle.fx_words.proofs.Names.{job_named}
+use Rattle.fx_words.proofs.Numbers.{number_says}
 use Rattle.fx_laws.specs.Worded.{schedule_word, job_words, JobsTellTheirWords}
 
 abbrev Words : Type 0
@@ -29,20 +29,12 @@ gone_on f (Some a) y e = (a, refl, e)
 
 -- ---- schedules
 
-numbered_text : (more k : ℕ) (text : List ℕ) (m : ℕ) → numbered k more text ≡ Some m → decimal m ≡ text
-numbered_text zero k text m e = cc
-numbered_text (suc more) k text m e = by (bytes_eq (decimal k) text) refl e (numbered_text more (k + 1) text m)
-  where
-    by : (b : Bool) → bytes_eq (decimal k) text ≡ b → cond b (Some k) (numbered (k + 1) more text) ≡ Some m → (numbered (k + 1) more text ≡ Some m → decimal m ≡ text) → decimal m ≡ text
-    by true is h rest = let same : k ≡ m = cc in ap decimal (sym same) ∙ nat_list_exact (decimal k) text is
-    by false is h rest = rest h
-
 shells_texts : (count : ℕ) (texts : Words) (ks : List ℕ) → shells_named count texts ≡ Some ks → map decimal ks ≡ texts
 shells_texts count [] ks e = let same : [] ≡ ks = cc in ap (map decimal) (sym same)
 shells_texts count (text ∷ texts) ks e =
-    let first = gone_on (λ k. option_map (λ ks. k ∷ ks) (shells_named count texts)) (shell_named count text) ks e in
+    let first = gone_on (λ k. option_map (λ ks. k ∷ ks) (shells_named count texts)) (decimal_number count text) ks e in
     let rest = mapped (λ ks. first.0 ∷ ks) (shells_named count texts) ks first.2 in
-    ap (map decimal) (sym rest.2) ∙ (λ i. numbered_text count 0 text first.0 first.1 i ∷ shells_texts count texts rest.0 rest.1 i)
+    ap (map decimal) (sym rest.2) ∙ (λ i. (number_says count text first.0 first.1).0 i ∷ shells_texts count texts rest.0 rest.1 i)
 
 named_word : (texts : Words) (ks : List ℕ) → 0 < length texts → map decimal ks ≡ texts → schedule_word ks ≡ join_with_byte 44 texts
 named_word texts [] some e = absurd (omega (arith, ap length e))
@@ -64,7 +56,7 @@ run_is [] j e = cc
 run_is (a ∷ []) j e = cc
 run_is (a ∷ b ∷ []) j e = cc
 run_is (spec ∷ folder ∷ out ∷ scripts) j e =
-    let is = chosen_some (is_count (length scripts)) (Some (record { inputs = record { spec = spec; folder = folder; scripts = scripts; first = 4 }; out = out; mode = Plain })) j e in
+    let is = chosen_some (is_within 1 64 (length scripts)) (Some (record { inputs = record { spec = spec; folder = folder; scripts = scripts; first = 4 }; out = out; mode = Plain })) j e in
     let same : record { inputs = record { spec = spec; folder = folder; scripts = scripts; first = 4 }; out = out; mode = Plain } ≡ j = cc in
     ap (λ j. job_words (Run j)) same
 
@@ -75,7 +67,7 @@ trace_is (a ∷ b ∷ []) j e = cc
 trace_is (a ∷ b ∷ c ∷ []) j e = cc
 trace_is (spec ∷ folder ∷ out ∷ schedule ∷ scripts) j e =
     let job : List ℕ → RunJob = λ shells. record { inputs = record { spec = spec; folder = folder; scripts = scripts; first = 5 }; out = out; mode = Scheduled shells } in
-    let is = mapped job (schedule_of (length scripts) schedule) j (chosen_some (is_count (length scripts)) (option_map job (schedule_of (length scripts) schedule)) j e).1 in
+    let is = mapped job (schedule_of (length scripts) schedule) j (chosen_some (is_within 1 64 (length scripts)) (option_map job (schedule_of (length scripts) schedule)) j e).1 in
     ap (λ t. codes "trace" ∷ spec ∷ folder ∷ out ∷ t ∷ scripts) (schedule_is (length scripts) schedule is.0 is.1) ∙ ap (λ j. job_words (Run j)) is.2
 
 watch_is : (args : Words) (j : RunJob) → scheduled_job Watched args ≡ Some j → codes "watch" ∷ args ≡ job_words (Run j)
@@ -85,13 +77,13 @@ watch_is (a ∷ b ∷ []) j e = cc
 watch_is (a ∷ b ∷ c ∷ []) j e = cc
 watch_is (spec ∷ folder ∷ out ∷ schedule ∷ scripts) j e =
     let job : List ℕ → RunJob = λ shells. record { inputs = record { spec = spec; folder = folder; scripts = scripts; first = 5 }; out = out; mode = Watched shells } in
-    let is = mapped job (schedule_of (length scripts) schedule) j (chosen_some (is_count (length scripts)) (option_map job (schedule_of (length scripts) schedule)) j e).1 in
+    let is = mapped job (schedule_of (length scripts) schedule) j (chosen_some (is_within 1 64 (length scripts)) (option_map job (schedule_of (length scripts) schedule)) j e).1 in
     ap (λ t. codes "watch" ∷ spec ∷ folder ∷ out ∷ t ∷ scripts) (schedule_is (length scripts) schedule is.0 is.1) ∙ ap (λ j. job_words (Run j)) is.2
 
-show_is : (args : Words) (j : ShowJob) → show_job args ≡ Some j → codes "show" ∷ args ≡ job_words (Show j)
+show_is : (args : Words) (j : Inputs) → show_job args ≡ Some j → codes "show" ∷ args ≡ job_words (Show j)
 show_is [] j e = cc
 show_is (a ∷ []) j e = cc
-show_is (spec ∷ folder ∷ []) j e = let same : record { spec = spec; folder = folder } ≡ j = cc in ap (λ j. job_words (Show j)) same
+show_is (spec ∷ folder ∷ []) j e = let same : record { spec = spec; folder = folder; scripts = []; first = 3 } ≡ j = cc in ap (λ j. job_words (Show j)) same
 show_is (a ∷ b ∷ c ∷ args) j e = cc
 
 gen_is : (args : Words) (j : GenJob) → gen_job args ≡ Some j → decimal j.number ∷ j.out ∷ [] ≡ args
@@ -100,18 +92,15 @@ gen_is (a ∷ []) j e = cc
 gen_is (a ∷ b ∷ c ∷ args) j e = cc
 gen_is (number ∷ out ∷ []) j e =
     let job : ℕ → GenJob = λ n. record { number = n; out = out } in
-    let is = mapped job (decimal_number number) j e in
-    let value = digits_value 10 number in
-    let number_is = chosen_some (bytes_eq (decimal value) number && nat_lt value (2 ^ 32)) (Some value) is.0 is.1 in
-    let same : value ≡ is.0 = cc in
-    ap (λ (j : GenJob). decimal j.number ∷ j.out ∷ []) (sym is.2) ∙ ap (λ t. t ∷ out ∷ []) (ap decimal (sym same) ∙ nat_list_exact (decimal value) number (and_parts (bytes_eq (decimal value) number) (nat_lt value (2 ^ 32)) number_is.0).0)
+    let is = mapped job (decimal_number (2 ^ 32) number) j e in
+    ap (λ (j : GenJob). decimal j.number ∷ j.out ∷ []) (sym is.2) ∙ ap (λ t. t ∷ out ∷ []) (number_says (2 ^ 32) number is.0 is.1).0
 
 audit_is : (args : Words) (j : AuditJob) → audit_job args ≡ Some j → codes "audit" ∷ args ≡ job_words (Audit j)
 audit_is [] j e = cc
 audit_is (a ∷ []) j e = cc
 audit_is (a ∷ b ∷ []) j e = cc
 audit_is (spec ∷ folder ∷ report ∷ scripts) j e =
-    let is = chosen_some (is_count (length scripts)) (Some (record { inputs = record { spec = spec; folder = folder; scripts = scripts; first = 4 }; report = report })) j e in
+    let is = chosen_some (is_within 1 64 (length scripts)) (Some (record { inputs = record { spec = spec; folder = folder; scripts = scripts; first = 4 }; report = report })) j e in
     let same : record { inputs = record { spec = spec; folder = folder; scripts = scripts; first = 4 }; report = report } ≡ j = cc in
     ap (λ j. job_words (Audit j)) same
 
@@ -123,7 +112,7 @@ journal_is (a ∷ b ∷ c ∷ []) j e = cc
 journal_is (a ∷ b ∷ c ∷ d ∷ []) j e = cc
 journal_is (spec ∷ folder ∷ out ∷ journal ∷ schedule ∷ scripts) j e =
     let job : List ℕ → JournalJob = λ shells. record { run = record { inputs = record { spec = spec; folder = folder; scripts = scripts; first = 6 }; out = out; mode = Scheduled shells }; journal = journal } in
-    let is = mapped job (schedule_of (length scripts) schedule) j (chosen_some (is_count (length scripts)) (option_map job (schedule_of (length scripts) schedule)) j e).1 in
+    let is = mapped job (schedule_of (length scripts) schedule) j (chosen_some (is_within 1 64 (length scripts)) (option_map job (schedule_of (length scripts) schedule)) j e).1 in
     ap (λ t. codes "journal" ∷ spec ∷ folder ∷ out ∷ journal ∷ t ∷ scripts) (schedule_is (length scripts) schedule is.0 is.1) ∙ ap (λ j. job_words (Journal j)) is.2
 
 recover_is : (args : Words) (j : RecoverJob) → recover_job args ≡ Some j → codes "recover" ∷ args ≡ job_words (Recover j)
@@ -132,7 +121,7 @@ recover_is (a ∷ []) j e = cc
 recover_is (a ∷ b ∷ []) j e = cc
 recover_is (a ∷ b ∷ c ∷ []) j e = cc
 recover_is (spec ∷ folder ∷ journal ∷ out ∷ scripts) j e =
-    let is = chosen_some (is_count (length scripts)) (Some (record { inputs = record { spec = spec; folder = folder; scripts = scripts; first = 5 }; journal = journal; out = out })) j e in
+    let is = chosen_some (is_within 1 64 (length scripts)) (Some (record { inputs = record { spec = spec; folder = folder; scripts = scripts; first = 5 }; journal = journal; out = out })) j e in
     let same : record { inputs = record { spec = spec; folder = folder; scripts = scripts; first = 5 }; journal = journal; out = out } ≡ j = cc in
     ap (λ j. job_words (Recover j)) same
 
@@ -142,7 +131,7 @@ views_is (a ∷ []) j e = cc
 views_is (a ∷ b ∷ []) j e = cc
 views_is (a ∷ b ∷ c ∷ []) j e = cc
 views_is (spec ∷ folder ∷ out ∷ views ∷ scripts) j e =
-    let is = chosen_some (is_count_with_views (length scripts)) (Some (record { inputs = record { spec = spec; folder = folder; scripts = scripts; first = 5 }; out = out; views = views })) j e in
+    let is = chosen_some (is_within 1 63 (length scripts)) (Some (record { inputs = record { spec = spec; folder = folder; scripts = scripts; first = 5 }; out = out; views = views })) j e in
     let same : record { inputs = record { spec = spec; folder = folder; scripts = scripts; first = 5 }; out = out; views = views } ≡ j = cc in
     ap (λ j. job_words (Views j)) same
 
@@ -179,5 +168,5 @@ pub jobs_tell_their_words : JobsTellTheirWords
 jobs_tell_their_words [] job e = cc
 jobs_tell_their_words (word ∷ args) job e =
     let h = (chosen_some (are_plain args) (named_job word args) job e).1 in
-    let named = gone_on (λ name. command_job name args) (command_named word) job h in
+    let named = gone_on (λ name. command_job name args) (command_named word) job (sym (job_named word args) ∙ h) in
     asks word args job (one_of commands word named.0 named.1) h

@@ -7,11 +7,10 @@ use Rattle.fx_outside.specs.Tree.{Entry}
 use Rattle.fx_store.specs.Names.{IsName}
 use Rattle.fx_spec.specs.Edit.{clear}
 use Rattle.fx_folder.specs.Deep.{last_name, refused_kind, refused_bytes, refused_entry}
-use Rattle.fx_folder.specs.Limits.{most_nodes}
+use Rattle.fx_folder.specs.declared.limits.TheConstants.{MAX_NODES}
 use Rattle.fx_table.specs.declared.fault.FolderCause.{FolderCause}
 use Rattle.fx_table.specs.Places.{place_of}
-use Rattle.fx_spec.specs.Written.{names_in}
-use Rattle.fx_spec.proofs.Meaning.{shape_meant}
+use Rattle.fx_spec.proofs.Meaning.{part_shape}
 use Rattle.fx_table.specs.declared.fault.FolderCause.TheVariants.{BadName, BadTable, TooLarge}
 use Rattle.fx_table.specs.declared.line.TableLine.{TableLine}
 use Rattle.fx_table.specs.Table.{lacks_flags}
@@ -28,7 +27,7 @@ said_twice = record {
   path_above = refl;
   last_name = refl;
   other_names = refl;
-  shape = λ defs n s. shape_meant (λ f. names_in defs n f) s;
+  shape = part_shape;
   lacking_flags = λ text lines. lacking lines (lacks_flags text lines);
 }
 
@@ -37,8 +36,8 @@ too_long : (nodes left : ℕ) (names : Parts) (e : Entry) → IsName (last_name 
 too_long nodes left names e name long =
     let far : nat_le (length names) 64 ≡ false = not_le (nat_le (length names) 64) refl in
     let cause : Option FolderCause = option_or (refused_kind names e.kind) (refused_bytes left names e.bytes) in
-    ap (λ b. cond b (cond (nat_le (length names) 64 && nat_lt nodes most_nodes) cause (Some (TooLarge (place_of names)))) (Some (BadName (place_of names)))) name
-    ∙ ap (λ b. cond (b && nat_lt nodes most_nodes) cause (Some (TooLarge (place_of names)))) far
+    ap (λ b. cond b (cond (nat_le (length names) 64 && nat_lt nodes MAX_NODES) cause (Some (TooLarge (place_of names)))) (Some (BadName (place_of names)))) name
+    ∙ ap (λ b. cond (b && nat_lt nodes MAX_NODES) cause (Some (TooLarge (place_of names)))) far
   where
     not_le : (b : Bool) → nat_le (length names) 64 ≡ b → b ≡ false
     not_le true h = absurd (let short = leb-true (length names) 64 h in omega (arith, short, long))
@@ -48,7 +47,6 @@ pub numerals_are_limits : NumeralsAreLimits
 unfolding clear
 numerals_are_limits = record {
   content = λ bytes. refl;
-  file = refl;
   full = λ path. refl;
   levels = λ path. refl;
   deep = λ here names node. refl;

@@ -1,6 +1,5 @@
 -- The order that `recover` reads is the one that the journal kept.
-use Rattle.std.proofs.Common.{◌≡◌, ◌⊎◌, inl, inr, ℕ, List, length, Some, IfSome, refl, sym, ap, subst, ◌∙◌}
-use Rattle.std.proofs.lemmas.Option.{same_Some}
+use Rattle.std.proofs.Common.{◌≡◌, ◌⊎◌, inl, inr, ℕ, List, length, Some, Ok, IfSome, refl, sym, ap, subst, ◌∙◌}
 use Rattle.fx_store.specs.Whole.{Nodes}
 use Rattle.fx_outside.specs.Tree.{Tree}
 use Rattle.fx_spec.specs.Plans.{Turn}
@@ -18,7 +17,8 @@ after : (t : Tree) (j : RecoverJob) (disk : DiskView) (base : BaseTree) (order :
 after t j disk base order file nodes output begins told spells outcome =
     let image = subst (λ o. IfSome o (λ file. (file.path ≡ j.journal) × Spells outcome.order file.seen)) told outcome.read.spelled in
     let same_base : base ≡ outcome.base = outcome.read.only base begins in
-    let same_order : order ≡ outcome.order = same_Some order outcome.order (sym spells ∙ image.1) in
+    let both : Ok order ≡ Ok outcome.order = sym spells ∙ image.1 in
+    let same_order : order ≡ outcome.order = cc in
     record {
       last = outcome.last ∙ ap (λ b. state b outcome.order (length outcome.order)) (sym same_base) ∙ ap (λ o. state base o (length o)) (sym same_order);
       printed = outcome.printed ∙ ap (λ o. recovered_line (length o)) (sym same_order);

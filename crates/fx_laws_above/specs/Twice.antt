@@ -21,7 +21,6 @@ use Rattle.fx_table.specs.declared.line.TableLine.{TableLine}
 use Rattle.fx_table.specs.Places.{place_of}
 use Rattle.fx_table.specs.Table.{unless_lacking}
 use Rattle.fx_folder.specs.Deep as folder
-use Rattle.fx_folder.specs.Limits.{most_in_file}
 
 -- the first bad line, as a cause against the folder
 abbrev pub bad_line : {A : Type 0} → Result A ℕ → Option FolderCause
@@ -40,7 +39,6 @@ pub record SaidTwice : Type 0 where
 -- numerals of definitions, and the limits that they are
 pub record NumeralsAreLimits : Type 0 where
   pub content : (bytes : List ℕ) → edit.is_content bytes ≡ (nat_le (length bytes) MAX_FILE_BYTES && list_all (λ b. nat_lt b 256) bytes)
-  pub file : most_in_file ≡ MAX_FILE_BYTES
   pub full : (path : List (List ℕ)) → is_full path ≡ nat_lt (MAX_PATH_NAMES - 1) (length path)
   pub levels : (path : List (List ℕ)) → edit.clear path ≡ edit.clear_levels (MAX_PATH_NAMES + 1 - length path) path
   pub deep : (here names : List (List ℕ)) (node : Node) → edit.is_too_deep here names node ≡ cond (nat_lt MAX_PATH_NAMES (length here + length names)) true (edit.lacks_room (here ++ names) node)

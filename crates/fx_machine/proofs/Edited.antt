@@ -18,7 +18,7 @@ use Rattle.fx_store.proofs.Placing.{IsNameSet-without}
 use Rattle.fx_expr.specs.Sets.{set_of, with_text}
 use Rattle.fx_expr.specs.Tree.{Tree}
 use Rattle.fx_spec.specs.declared.refusal.Refusal.{Refusal}
-use Rattle.fx_spec.specs.Edit.{renewed, is_flag, set_to, removed, names_of, clear_all, cleared, clear_levels, clear, entry, entries, new_names, lacks_room, unless_deep, replaced, made, make, is_too_deep, store_landed, stored_node, follows_last, store_at, bare_node, create_landed, create_at, last_name, without_name, remove_entry, remove_landed, remove_at}
+use Rattle.fx_spec.specs.Edit.{renewed, is_flag, set_to, removed, names_of, cleared, clear_levels, clear, entry, entries, new_names, lacks_room, unless_deep, replaced, made, make, is_too_deep, store_landed, stored_node, follows_last, store_at, bare_node, create_landed, create_at, last_name, without_name, remove_entry, remove_landed, remove_at}
 use Rattle.fx_spec.specs.Move.{Answered, unrefused, needed}
 use Rattle.fx_spec.specs.Place.{PlaceTree}
 use Rattle.fx_spec.proofs.EditsKeep.{empty_file, ends_in}
@@ -36,16 +36,16 @@ edit_sets (Err refusal) = Unit {0}
 
 -- ------------------------------------------------------------------------------------------------------------- removals
 
-clears_all : (clear : List (List ℕ) → Ask (List Change)) (q names : List (List ℕ)) → ((n : List ℕ) → IsName n → AsksPaths MaySet (clear (q /ₚ n))) → All IsName names → AsksPaths MaySet (clear_all clear q names)
+clears_all : (clear : List (List ℕ) → Ask (List Change)) (q names : List (List ℕ)) → ((n : List ℕ) → IsName n → AsksPaths MaySet (clear (q /ₚ n))) → All IsName names → AsksPaths MaySet (entries (λ n. clear (q /ₚ n)) names)
 clears_all clear q [] each are = sets_none
 clears_all clear q (n ∷ names) each are =
-    asks_then MaySet MaySet (clear (q /ₚ n)) (λ first. clear_all clear q names >>= λ rest. Answer (first ++ rest)) (each n (All-head IsName n names are)) (λ first may.
-    asks_then MaySet MaySet (clear_all clear q names) (λ rest. Answer (first ++ rest)) (clears_all clear q names each (All-tail IsName n names are)) (λ rest more. sets_both first rest may more))
+    asks_then MaySet MaySet (clear (q /ₚ n)) (λ first. entries (λ n. clear (q /ₚ n)) names >>= λ rest. Answer (first ++ rest)) (each n (All-head IsName n names are)) (λ first may.
+    asks_then MaySet MaySet (entries (λ n. clear (q /ₚ n)) names) (λ rest. Answer (first ++ rest)) (clears_all clear q names each (All-tail IsName n names are)) (λ rest more. sets_both first rest may more))
 
 cleared_asks : (clear : List (List ℕ) → Ask (List Change)) (q : List (List ℕ)) (found : Option Node) → IsPath q → MayStand q found → ((n : List ℕ) → IsName n → AsksPaths MaySet (clear (q /ₚ n))) → AsksPaths MaySet (cleared q clear found)
 cleared_asks clear q None path may each = sets_none
 cleared_asks clear q (Some node) path may each =
-    asks_then MaySet MaySet (clear_all clear q (names_of (Some node))) (λ below. Answer (removed q ∷ below)) (clears_all clear q (names_of (Some node)) each (names_found q (Some node) may).names) (λ below more. sets_more (removed q) below path tt more)
+    asks_then MaySet MaySet (entries (λ n. clear (q /ₚ n)) (names_of (Some node))) (λ below. Answer (removed q ∷ below)) (clears_all clear q (names_of (Some node)) each (names_found q (Some node) may).names) (λ below more. sets_more (removed q) below path tt more)
 
 -- so many levels from a path on have paths of at most 64 names
 clears : (levels : ℕ) (q : List (List ℕ)) → All IsName q → length q + levels ≤ 65 → AsksPaths MaySet (clear_levels levels q)

@@ -9,7 +9,8 @@ use Rattle.fx_lex.specs.declared.token.Token.{Token}
 use Rattle.fx_lex.specs.declared.token.Token.TheVariants as token
 use Rattle.fx_parse.specs.declared.keyword.Keyword.TheVariants as keyword
 use Rattle.fx_parse.specs.Stuck.{Stuck, Unexpected, TooNested, ◌>>=◌}
-use Rattle.fx_parse.specs.Grammars.{word, opening, closing, comma, binary_token, unary_word, bool_word, expr_tokens, expr_levels, has_names}
+use Rattle.fx_parse.specs.Keywords.{word}
+use Rattle.fx_parse.specs.Grammars.{opening, closing, comma, binary_token, unary_word, bool_word, expr_tokens, expr_levels, has_names}
 use Rattle.fx_parse.specs.Reader.{expect, is_opening, is_closing, is_comma, Head, Leaf, Bracket, Before, Choice, Nothing, head_of, Middle, Binary, Glob, Neither, middle_of, middle_found, middle_at, glob_at, ReadExpr, second_at, bracket_at, before_at, choice_at, form_at, too_nested, is_nothing, read_expr}
 use Rattle.fx_parse.proofs.Machine.{at_most, scan, scan_from}
 use Rattle.fx_parse.proofs.Tests.{IsTest, scan_test}
@@ -182,7 +183,7 @@ unfolding form_at
 expr_again t bound zero d rest e h low = let fits = level_fits bound d t low in absurd (omega (arith, e, fits))
 expr_again (ExprTree.str v) bound (suc n) d rest e h low = opens n (token.Str v) rest (Leaf (ExprTree.str v)) refl refl
 expr_again (ExprTree.int z) bound (suc n) d rest e h low = opens n (token.Number z) rest (Leaf (ExprTree.int z)) refl refl
-expr_again (ExprTree.bool b) bound (suc n) d rest e h low = opens n (word (bool_word b)) rest (Leaf (ExprTree.bool b)) (head_bool b) refl
+expr_again (ExprTree.bool b) bound (suc n) d rest e h low = opens n (token.Word (bool_word b)) rest (Leaf (ExprTree.bool b)) (head_bool b) refl
 expr_again ExprTree.empty bound (suc n) d rest e h low = opens n (word keyword.Empty) rest (Leaf ExprTree.empty) (head_word keyword.Empty) refl
 expr_again (ExprTree.var w) bound (suc n) d rest e h low = opens n (token.Word w) rest (Leaf (ExprTree.var w)) (head_name w h) refl
 expr_again (ExprTree.bin op a b) bound (suc n) d rest e h low =
@@ -194,7 +195,7 @@ expr_again (ExprTree.bin op a b) bound (suc n) d rest e h low =
 expr_again (ExprTree.un op a) bound (suc n) d rest e h low =
     let inner = tail_low bound 0 (expr_levels (suc d) a ++ 0 ∷ []) (tail_low bound d (0 ∷ (expr_levels (suc d) a ++ 0 ∷ [])) low) in
     let next : n ≡ suc bound - suc d = omega (arith, e) in
-    opens n (word (unary_word op)) _ (Before op) (head_unary op) refl ∙ again_un n op a rest (λ r. expr_again a bound n (suc d) r next h (front_low bound (expr_levels (suc d) a) (0 ∷ []) inner))
+    opens n (token.Word (unary_word op)) _ (Before op) (head_unary op) refl ∙ again_un n op a rest (λ r. expr_again a bound n (suc d) r next h (front_low bound (expr_levels (suc d) a) (0 ∷ []) inner))
 expr_again (ExprTree.choose c a b) bound (suc n) d rest e h low =
     let hs = and_parts (has_names c) _ h in
     let is = and_parts (has_names a) (has_names b) hs.1 in

@@ -17,10 +17,10 @@ use Rattle.fx_lex.specs.declared.token.Mark.{Mark}
 use Rattle.fx_lex.specs.declared.token.Mark.TheVariants as mark
 use Rattle.fx_parse.specs.declared.keyword.Keyword.{Keyword}
 use Rattle.fx_parse.specs.declared.keyword.Keyword.TheVariants as keyword
-use Rattle.fx_parse.specs.Keywords.{keyword_bytes, keyword_of, keywords}
-use Rattle.fx_parse.specs.Grammars.{word, opening, closing, comma, binary_token, unary_word, bool_word, expr_tokens, expr_levels, is_name, has_names, exprs}
+use Rattle.fx_parse.specs.Keywords.{keyword_bytes, keyword_of, keywords, word}
+use Rattle.fx_parse.specs.Grammars.{opening, closing, comma, binary_token, unary_word, bool_word, expr_tokens, expr_levels, is_name, has_names, exprs}
 use Rattle.fx_parse.specs.Reader.{is_opening, is_closing, is_comma, Head, Leaf, Bracket, Before, Choice, Nothing, keyword_head, word_head, head_of, Middle, Binary, Glob, Neither, keyword_middle, mark_middle, word_middle, middle_of}
-use Rattle.fx_parse.proofs.Finds.{found_passes}
+use Rattle.fx_parse.proofs.Finds.{found_passes, is_no_keyword}
 use Rattle.fx_parse.proofs.KeywordLaws.{keyword_again}
 use Rattle.fx_parse.proofs.Machine.{Table, Runs, run_on, MeansAll, built}
 use Rattle.fx_parse.proofs.Tests.{passed, passed_step}
@@ -70,27 +70,24 @@ head_word k = ap (word_head (keyword_bytes k)) (keyword_again k)
 middle_word : (k : Keyword) → middle_of (word k) ≡ keyword_middle k
 middle_word k = ap word_middle (keyword_again k)
 
-pub head_unary : (op : UnOp) → head_of (word (unary_word op)) ≡ Before op
-head_unary op = head_word (unary_word op) ∙ same op
-  where
-    same : (op : UnOp) → keyword_head (unary_word op) ≡ Before op
-    same unary.Not = refl
-    same unary.One = refl
-    same unary.Lines = refl
-    same unary.Size = refl
-    same unary.Int = refl
-    same unary.Text = refl
-    same unary.First = refl
-    same unary.Second = refl
-    same unary.Keys = refl
-    same unary.Present = refl
+pub head_unary : (op : UnOp) → head_of (token.Word (unary_word op)) ≡ Before op
+head_unary unary.Not = head_word keyword.Not
+head_unary unary.One = head_word keyword.One
+head_unary unary.Lines = head_word keyword.Lines
+head_unary unary.Size = head_word keyword.Size
+head_unary unary.Int = head_word keyword.Int
+head_unary unary.Text = head_word keyword.Text
+head_unary unary.First = head_word keyword.First
+head_unary unary.Second = head_word keyword.Second
+head_unary unary.Keys = head_word keyword.Keys
+head_unary unary.Present = head_word keyword.Present
 
-pub head_bool : (b : Bool) → head_of (word (bool_word b)) ≡ Leaf (ExprTree.bool b)
+pub head_bool : (b : Bool) → head_of (token.Word (bool_word b)) ≡ Leaf (ExprTree.bool b)
 head_bool true = head_word keyword.True
 head_bool false = head_word keyword.False
 
 pub head_name : (w : List ℕ) → is_name w ≡ true → head_of (token.Word w) ≡ Leaf (ExprTree.var w)
-head_name w e = ap (word_head w) (none_is (keyword_of w) e)
+head_name w e = ap (word_head w) (none_is (keyword_of w) (sym (is_no_keyword w) ∙ e))
 
 pub middle_binary : (op : BinOp) → middle_of (binary_token op) ≡ Binary op
 middle_binary binary.Join = refl
@@ -157,7 +154,7 @@ keyword_spelled w k e = ap token.Word (sym (nat_list_exact (keyword_bytes k) w (
 abbrev HeadSpells : Head → Token → Type 0
 HeadSpells (Leaf t) x = (has_names t ≡ true) × (expr_tokens t ≡ x ∷ [])
 HeadSpells Bracket x = x ≡ opening
-HeadSpells (Before op) x = x ≡ word (unary_word op)
+HeadSpells (Before op) x = x ≡ token.Word (unary_word op)
 HeadSpells Choice x = x ≡ word keyword.If
 HeadSpells Nothing x = Unit {0}
 
@@ -179,7 +176,7 @@ keyword_spells keyword.If = refl
 keyword_spells _ = tt
 
 word_spells : (w : List ℕ) (o : Option Keyword) → keyword_of w ≡ o → HeadSpells (word_head w o) (token.Word w)
-word_spells w None e = (ap is_none e, refl)
+word_spells w None e = (is_no_keyword w ∙ ap is_none e, refl)
 word_spells w (Some k) e = subst (λ x. HeadSpells (keyword_head k) x) (sym (keyword_spelled w k e)) (keyword_spells k)
 
 mark_spells : (m : Mark) → HeadSpells (head_of (token.Mark m)) (token.Mark m)
@@ -266,7 +263,7 @@ expr_step d x (Before op) more ts s e r =
     let q = p.4 in
     let a = q.3 in
     let inner : p.1 ≡ expr_tokens a.0 ++ closing ∷ [] = q.2 ∙ ap (λ l. l ++ q.1) a.2 ∙ ap (λ l. expr_tokens a.0 ++ l) (closed q.1 q.4) in
-    (ExprTree.un op a.0, a.1, ap (λ y. y ∷ ts) s ∙ ap (λ l. word (unary_word op) ∷ l) (p.2 ∙ ap (λ l. l ++ p.1) p.3 ∙ ap (λ l. opening ∷ l) inner))
+    (ExprTree.un op a.0, a.1, ap (λ y. y ∷ ts) s ∙ ap (λ l. token.Word (unary_word op) ∷ l) (p.2 ∙ ap (λ l. l ++ p.1) p.3 ∙ ap (λ l. opening ∷ l) inner))
 expr_step d x Choice more ts s e r =
     let parts : Open ∷ Expr (suc d) ∷ Comma ∷ Expr (suc d) ∷ Comma ∷ Expr (suc d) ∷ Close ∷ [] ≡ more = cc in
     let p = subst (λ m. Reads m ts) (sym parts) r in

@@ -7,7 +7,8 @@ use Rattle.fx_parse.specs.declared.keyword.Keyword.TheVariants as keyword
 use Rattle.fx_parse.specs.declared.shape_head.ShapeStart.{ShapeStart}
 use Rattle.fx_parse.specs.declared.shape_head.ShapeStart.TheVariants as start
 use Rattle.fx_parse.specs.Stuck.{Stuck, Unexpected, TooNested, ◌>>=◌}
-use Rattle.fx_parse.specs.Grammars.{word, opening, closing, comma, shape_tokens, shape_levels, shapes}
+use Rattle.fx_parse.specs.Keywords.{word}
+use Rattle.fx_parse.specs.Grammars.{opening, closing, comma, shape_tokens, shape_levels, shapes}
 use Rattle.fx_parse.specs.Reader.{expect, is_opening, is_closing, is_comma}
 use Rattle.fx_parse.specs.ShapeReader.{shape_of, ReadShape, pair_at, opt_at, table_at, shape_form_at, is_no_shape, shape_too_nested, read_shape}
 use Rattle.fx_parse.proofs.Machine.{at_most, scan, scan_from}

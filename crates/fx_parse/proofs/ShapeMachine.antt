@@ -8,8 +8,8 @@ use Rattle.fx_parse.specs.declared.keyword.Keyword.{Keyword}
 use Rattle.fx_parse.specs.declared.keyword.Keyword.TheVariants as keyword
 use Rattle.fx_parse.specs.declared.shape_head.ShapeStart.{ShapeStart}
 use Rattle.fx_parse.specs.declared.shape_head.ShapeStart.TheVariants as start
-use Rattle.fx_parse.specs.Keywords.{keyword_of}
-use Rattle.fx_parse.specs.Grammars.{word, opening, closing, comma, shape_tokens, shape_levels, shapes}
+use Rattle.fx_parse.specs.Keywords.{keyword_of, word}
+use Rattle.fx_parse.specs.Grammars.{opening, closing, comma, shape_tokens, shape_levels, shapes}
 use Rattle.fx_parse.specs.Reader.{is_opening, is_closing, is_comma}
 use Rattle.fx_parse.specs.ShapeReader.{keyword_shape, word_shape, shape_of}
 use Rattle.fx_parse.proofs.KeywordLaws.{keyword_again}

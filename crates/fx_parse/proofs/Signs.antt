@@ -8,8 +8,8 @@ use Rattle.fx_parse.specs.declared.keyword.Keyword.{Keyword}
 use Rattle.fx_parse.specs.declared.keyword.Keyword.TheVariants as keyword
 use Rattle.fx_parse.specs.declared.sign.Sign.{Sign}
 use Rattle.fx_parse.specs.declared.sign.Sign.TheVariants as sign
-use Rattle.fx_parse.specs.Keywords.{keyword_bytes}
-use Rattle.fx_parse.specs.Grammars.{word, is_name}
+use Rattle.fx_parse.specs.Keywords.{keyword_bytes, word}
+use Rattle.fx_parse.specs.Grammars.{is_name}
 use Rattle.fx_parse.specs.Stuck.{Stuck, Unexpected, ◌>>=◌}
 use Rattle.fx_parse.specs.Signs.{sign_token, is_word, is_sign, name_at}
 

@@ -1,5 +1,6 @@
 -- The tokens of expressions and shapes.
-use Rattle.std.specs.Prelude.{ℕ, suc, Bool, true, false, ◌&&◌, is_none, List, [], ◌∷◌, ◌++◌}
+use Rattle.std.specs.Prelude.{ℕ, suc, Bool, true, false, not, ◌&&◌, List, [], ◌∷◌, ◌++◌, codes, bytes_eq}
+use Rattle.std.specs.List.{list_any}
 use Rattle.fx_expr.specs.ExprTree.{ExprTree}
 use Rattle.fx_expr.specs.ShapeTree.{ShapeTree}
 use Rattle.fx_expr.specs.declared.expr.BinOp.{BinOp}
@@ -9,14 +10,8 @@ use Rattle.fx_expr.specs.declared.expr.UnOp.TheVariants as unary
 use Rattle.fx_lex.specs.declared.token.Token.{Token}
 use Rattle.fx_lex.specs.declared.token.Token.TheVariants as token
 use Rattle.fx_lex.specs.declared.token.Mark.TheVariants as mark
-use Rattle.fx_parse.specs.declared.keyword.Keyword.{Keyword}
-use Rattle.fx_parse.specs.declared.keyword.Keyword.TheVariants as keyword
-use Rattle.fx_parse.specs.Keywords.{keyword_bytes, keyword_of}
+use Rattle.fx_parse.specs.Keywords.{kept_words}
 use Rattle.fx_parse.specs.Readable.{Grammar}
-
--- the token of a kept word
-abbrev pub word : Keyword → Token
-word k = token.Word (keyword_bytes k)
 
 abbrev pub opening : Token
 opening = token.Mark mark.LeftParen
@@ -34,40 +29,40 @@ binary_token binary.Plus = token.Mark mark.Plus
 binary_token binary.Minus = token.Mark mark.Minus
 binary_token binary.Equal = token.Mark mark.EqualEqual
 binary_token binary.Less = token.Mark mark.LeftAngle
-binary_token binary.And = word keyword.And
-binary_token binary.Or = word keyword.Or
-binary_token binary.Member = word keyword.In
-binary_token binary.Union = word keyword.Union
-binary_token binary.Without = word keyword.Minus
+binary_token binary.And = token.Word (codes "and")
+binary_token binary.Or = token.Word (codes "or")
+binary_token binary.Member = token.Word (codes "in")
+binary_token binary.Union = token.Word (codes "union")
+binary_token binary.Without = token.Word (codes "minus")
 
 -- the operator before one expression
-abbrev pub unary_word : UnOp → Keyword
-unary_word unary.Not = keyword.Not
-unary_word unary.One = keyword.One
-unary_word unary.Lines = keyword.Lines
-unary_word unary.Size = keyword.Size
-unary_word unary.Int = keyword.Int
-unary_word unary.Text = keyword.Text
-unary_word unary.First = keyword.First
-unary_word unary.Second = keyword.Second
-unary_word unary.Keys = keyword.Keys
-unary_word unary.Present = keyword.Present
+abbrev pub unary_word : UnOp → List ℕ
+unary_word unary.Not = codes "not"
+unary_word unary.One = codes "one"
+unary_word unary.Lines = codes "lines"
+unary_word unary.Size = codes "size"
+unary_word unary.Int = codes "int"
+unary_word unary.Text = codes "text"
+unary_word unary.First = codes "first"
+unary_word unary.Second = codes "second"
+unary_word unary.Keys = codes "keys"
+unary_word unary.Present = codes "present"
 
-abbrev pub bool_word : Bool → Keyword
-bool_word true = keyword.True
-bool_word false = keyword.False
+abbrev pub bool_word : Bool → List ℕ
+bool_word true = codes "true"
+bool_word false = codes "false"
 
 -- `( a op b )`, `( a only GLOB )`, `op ( a )`, `if ( c , a , b )`
 abbrev pub expr_tokens : ExprTree → List Token
 expr_tokens (ExprTree.str v) = token.Str v ∷ []
 expr_tokens (ExprTree.int n) = token.Number n ∷ []
-expr_tokens (ExprTree.bool b) = word (bool_word b) ∷ []
-expr_tokens ExprTree.empty = word keyword.Empty ∷ []
+expr_tokens (ExprTree.bool b) = token.Word (bool_word b) ∷ []
+expr_tokens ExprTree.empty = token.Word (codes "empty") ∷ []
 expr_tokens (ExprTree.var w) = token.Word w ∷ []
 expr_tokens (ExprTree.bin op a b) = opening ∷ (expr_tokens a ++ (binary_token op ∷ (expr_tokens b ++ closing ∷ [])))
-expr_tokens (ExprTree.un op a) = word (unary_word op) ∷ opening ∷ (expr_tokens a ++ closing ∷ [])
-expr_tokens (ExprTree.choose c a b) = word keyword.If ∷ opening ∷ (expr_tokens c ++ (comma ∷ (expr_tokens a ++ (comma ∷ (expr_tokens b ++ closing ∷ [])))))
-expr_tokens (ExprTree.only a glob) = opening ∷ (expr_tokens a ++ word keyword.Only ∷ token.Str glob ∷ closing ∷ [])
+expr_tokens (ExprTree.un op a) = token.Word (unary_word op) ∷ opening ∷ (expr_tokens a ++ closing ∷ [])
+expr_tokens (ExprTree.choose c a b) = token.Word (codes "if") ∷ opening ∷ (expr_tokens c ++ (comma ∷ (expr_tokens a ++ (comma ∷ (expr_tokens b ++ closing ∷ [])))))
+expr_tokens (ExprTree.only a glob) = opening ∷ (expr_tokens a ++ token.Word (codes "only") ∷ token.Str glob ∷ closing ∷ [])
 
 -- each part of a form is a form of the next level
 abbrev pub expr_levels : ℕ → ExprTree → List ℕ
@@ -79,7 +74,7 @@ expr_levels d _ = d ∷ []
 
 -- a name is a word that is not kept
 abbrev pub is_name : List ℕ → Bool
-is_name w = is_none (keyword_of w)
+is_name w = not (list_any (λ kept. bytes_eq kept w) kept_words)
 
 -- each name of the expression is one
 abbrev pub has_names : ExprTree → Bool
@@ -94,13 +89,13 @@ abbrev pub exprs : Grammar ExprTree
 exprs = record { tokens = expr_tokens; levels = expr_levels; IsRight = has_names }
 
 abbrev pub shape_tokens : ShapeTree → List Token
-shape_tokens ShapeTree.str = word keyword.Str ∷ []
-shape_tokens ShapeTree.int = word keyword.Int ∷ []
-shape_tokens ShapeTree.bool = word keyword.Bool ∷ []
-shape_tokens ShapeTree.names = word keyword.Names ∷ []
-shape_tokens (ShapeTree.pair a b) = word keyword.Pair ∷ opening ∷ (shape_tokens a ++ (comma ∷ (shape_tokens b ++ closing ∷ [])))
-shape_tokens (ShapeTree.opt a) = word keyword.Opt ∷ opening ∷ (shape_tokens a ++ closing ∷ [])
-shape_tokens (ShapeTree.table a) = word keyword.Table ∷ opening ∷ (shape_tokens a ++ closing ∷ [])
+shape_tokens ShapeTree.str = token.Word (codes "str") ∷ []
+shape_tokens ShapeTree.int = token.Word (codes "int") ∷ []
+shape_tokens ShapeTree.bool = token.Word (codes "bool") ∷ []
+shape_tokens ShapeTree.names = token.Word (codes "names") ∷ []
+shape_tokens (ShapeTree.pair a b) = token.Word (codes "pair") ∷ opening ∷ (shape_tokens a ++ (comma ∷ (shape_tokens b ++ closing ∷ [])))
+shape_tokens (ShapeTree.opt a) = token.Word (codes "opt") ∷ opening ∷ (shape_tokens a ++ closing ∷ [])
+shape_tokens (ShapeTree.table a) = token.Word (codes "table") ∷ opening ∷ (shape_tokens a ++ closing ∷ [])
 
 abbrev pub shape_levels : ℕ → ShapeTree → List ℕ
 shape_levels d (ShapeTree.pair a b) = d ∷ 0 ∷ (shape_levels (suc d) a ++ (0 ∷ (shape_levels (suc d) b ++ 0 ∷ [])))

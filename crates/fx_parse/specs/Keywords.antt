@@ -1,8 +1,19 @@
 -- The words that the language keeps for itself.
-use Rattle.std.specs.Prelude.{ℕ, Option, List, [], ◌∷◌, codes, find, nat_eq}
+use Rattle.std.specs.Prelude.{ℕ, Option, List, [], ◌∷◌, ◌++◌, ◌==◌, codes, find, nat_eq}
 use Rattle.std.specs.Cmp.Lexicographic.{pointwise}
+use Rattle.std.specs.List.{slice_split}
+use Rattle.fx_lex.specs.declared.token.Token.{Token}
+use Rattle.fx_lex.specs.declared.token.Token.TheVariants as token
 use Rattle.fx_parse.specs.declared.keyword.Keyword.{Keyword}
 use Rattle.fx_parse.specs.declared.keyword.Keyword.TheVariants.{File, Dir, Link, Opt, Pred, In, Only, If, Else, And, Or, Not, Union, Minus, One, Lines, Size, Int, Text, First, Second, Keys, Present, True, False, Empty, Txn, Into, To, Next, Prev, Out, Down, Up, Top, Let, Set, Fetch, Value, Validate, Print, Store, Create, Remove, Try, Each, Abort, Str, Bool, Names, Pair, Table}
+
+-- each of them, with a space between each two
+abbrev pub kept_words : List (List ℕ)
+kept_words =
+    slice_split (λ b. b == 32)
+    (codes "file dir link opt pred in only if else and or not union minus one lines size int text first second keys "
+    ++ codes "present true false empty txn into to next prev out down up top let set fetch value validate print store "
+    ++ codes "create remove try each abort str bool names pair table")
 
 -- a kept word in bytes
 abbrev pub keyword_bytes : Keyword → List ℕ
@@ -74,3 +85,7 @@ found_in words word = find (λ keyword. pointwise nat_eq (keyword_bytes keyword)
 -- the kept word that bytes are
 abbrev pub keyword_of : List ℕ → Option Keyword
 keyword_of word = found_in keywords word
+
+-- the token of a kept word
+abbrev pub word : Keyword → Token
+word k = token.Word (keyword_bytes k)

@@ -1,6 +1,6 @@
 -- What a parser on the tokens of a text answers.
-use Rattle.std.specs.Prelude.{◌≡◌, ◌-◌, ◌≤◌, ℕ, Option, Some, None, drop, length, slice_get}
-use Rattle.fx_lex.specs.declared.token.Spanned.{Spanned}
+use Rattle.std.specs.Prelude.{◌≡◌, ◌-◌, ◌≤◌, ℕ, drop, length, slice_get}
+use Rattle.std.specs.Option.{option_map_or}
 use Rattle.fx_lex.specs.TokenList.{TokenList}
 use Rattle.fx_parse.specs.declared.fault.ParseFault.{ParseFault}
 use Rattle.fx_parse.specs.declared.fault.ParseFault.TheVariants as fault
@@ -9,14 +9,9 @@ use Rattle.fx_parse.specs.declared.stop.Stop.TheVariants as stop
 use Rattle.fx_parse.specs.Readable.{Grammar, Stands, IsUnexpected, IsTooNested}
 use Rattle.fx_parse.specs.Reader.{kinds}
 
--- where a token begins, or else the end of the text
-abbrev pub start_or : Option Spanned → ℕ → ℕ
-start_or None end = end
-start_or (Some s) end = s.start
-
--- the byte at which so many tokens are left
+-- the byte at which so many tokens are left: where the first of them begins, or else the end of the text
 abbrev pub place_left : TokenList → ℕ → ℕ
-place_left list k = start_or (slice_get list.spanned (length list.spanned - k)) list.text_len
+place_left list k = option_map_or (λ s. s.start) (slice_get list.spanned (length list.spanned - k)) list.text_len
 
 -- the refusal where reading stops
 abbrev pub fault_at : TokenList → Stop → ParseFault

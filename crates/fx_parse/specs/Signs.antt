@@ -6,8 +6,8 @@ use Rattle.fx_lex.specs.declared.token.Mark.TheVariants as mark
 use Rattle.fx_parse.specs.declared.keyword.Keyword.TheVariants as keyword
 use Rattle.fx_parse.specs.declared.sign.Sign.{Sign}
 use Rattle.fx_parse.specs.declared.sign.Sign.TheVariants as sign
-use Rattle.fx_parse.specs.Keywords.{keyword_bytes}
-use Rattle.fx_parse.specs.Grammars.{word, is_name}
+use Rattle.fx_parse.specs.Keywords.{keyword_bytes, word}
+use Rattle.fx_parse.specs.Grammars.{is_name}
 use Rattle.fx_parse.specs.Stuck.{Stuck, Unexpected}
 use Rattle.fx_parse.specs.Reader.{unexpected}
 

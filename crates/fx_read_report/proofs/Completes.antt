@@ -9,7 +9,7 @@ use Rattle.fx_spec.specs.declared.refusal.End.TheVariants as end
 use Rattle.fx_machine.specs.declared.retry.Retry.{Retry}
 use Rattle.fx_report.specs.declared.printed.PrintedEntry.{PrintedEntry}
 use Rattle.fx_store.specs.Names.{IsName}
-use Rattle.fx_read_report.specs.Form.{AreFormEntries, AreFormRetries}
+use Rattle.fx_read_report.specs.Form.{IsFormEntry, IsFormRetry}
 use Rattle.fx_read_report.specs.Lines.{IsLine, Line, head, entries, retries, retry, final}
 use Rattle.fx_read_report.specs.Stages.{State, at, entry_begun}
 use Rattle.fx_read_report.specs.declared.reading.Stage.{Stage}
@@ -25,11 +25,11 @@ blank = entry_begun 0 0 end.Done
 abbrev blank_retry : Retry
 blank_retry = record { shell = 0; txn = 0; entry = 0; path = [] }
 
-blanks : (k : ℕ) → AreFormEntries (replicate k blank)
+blanks : (k : ℕ) → AllByRecursion IsFormEntry (replicate k blank)
 blanks zero = tt
 blanks (suc k) = (record { shell = lit< tt; txn = lit< tt; outputs = tt; ended = tt }, blanks k)
 
-blank_retries : (k : ℕ) → AreFormRetries (replicate k blank_retry)
+blank_retries : (k : ℕ) → AllByRecursion IsFormRetry (replicate k blank_retry)
 blank_retries zero = tt
 blank_retries (suc k) = (record { shell = lit< tt; txn = lit< tt; entry = lit< tt; path = record { names = All-nil IsName; short = omega arith } }, blank_retries k)
 

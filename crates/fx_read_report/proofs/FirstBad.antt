@@ -7,7 +7,7 @@ use Rattle.std.proofs.lemmas.List.{length-map, length-take-le}
 use Rattle.std.proofs.lemmas.List.Folds.{flat_map-map}
 use Rattle.std.proofs.lemmas.Option.{option_and_then_some}
 use Rattle.fx_base.proofs.Lists.{all_both, all_end, all_push}
-use Rattle.fx_read_report.specs.Feeds.{AllLackFeed, IsFeedAt, LacksFeed}
+use Rattle.fx_read_report.specs.Feeds.{IsFeedAt, LacksFeed}
 
 -- ---- lines of bytes
 
@@ -87,7 +87,7 @@ module _ {State Line : Type 0} (m : Machine State Line) where
     pub rest : List ℕ
     pub parts : bytes ≡ flat_map fed lines ++ rest
     pub count : length lines ≡ number
-    pub lack : AllLackFeed lines
+    pub lack : AllByRecursion LacksFeed lines
     pub later : List ℕ
     pub whole : Whole (flat_map fed lines ++ later)
 
@@ -178,7 +178,7 @@ module _ {State Line : Type 0} (m : Machine State Line) where
     whole : (z : List ℕ) → flat_map fed us ++ z ≡ text_of ls ++ (last ++ 10 ∷ z)
     left : x ≡ last ++ 10 ∷ y
 
-  longer : (ls : List Line) (us : List (List ℕ)) (x y : List ℕ) → AllLackFeed us → text_of ls ++ x ≡ flat_map fed us ++ y → length us ≡ length ls + 1 → Longer ls us x y
+  longer : (ls : List Line) (us : List (List ℕ)) (x y : List ℕ) → AllByRecursion LacksFeed us → text_of ls ++ x ≡ flat_map fed us ++ y → length us ≡ length ls + 1 → Longer ls us x y
   longer [] [] x y p e n = absurd (omega arith)
   longer [] (u ∷ []) x y p e n =
       let form : (z : List ℕ) → flat_map fed (u ∷ []) ++ z ≡ u ++ 10 ∷ z = λ z. append_assoc (fed u) [] z ∙ fed_form u z in
@@ -237,7 +237,7 @@ module _ {State Line : Type 0} (m : Machine State Line) where
         };
       }
     where
-      lack : (ls : List Line) → AllLackFeed (map m.text ls)
+      lack : (ls : List Line) → AllByRecursion LacksFeed (map m.text ls)
       lack [] = tt
       lack (l ∷ ls) = (m.lacks l, lack ls)
 

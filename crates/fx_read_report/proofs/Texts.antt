@@ -8,7 +8,7 @@ use Rattle.fx_expr.specs.Tree.{Tree}
 use Rattle.fx_machine.specs.declared.retry.Retry.{Retry}
 use Rattle.fx_report.specs.declared.printed.PrintedEntry.{PrintedEntry}
 use Rattle.fx_report.specs.Report.{entries_text, entry_line, entry_text, line, print_line, report_text, retry_line}
-use Rattle.fx_read_report.specs.Form.{AreFormEntries, AreFormRetries, ArePrinted, IsReportForm, IsFormRetry}
+use Rattle.fx_read_report.specs.Form.{IsReportForm, IsFormEntry, IsFormRetry}
 use Rattle.fx_read_report.specs.Lines.{Line, IsLine, head, entries, entry, print, retries, retry, final, line_text}
 use Rattle.fx_read_report.specs.Stages.{State, is_ended, with_line, start_state}
 use Rattle.fx_read_report.specs.Values.{IsPrinted}
@@ -75,23 +75,23 @@ report_is es rs =
 
 -- ---- lines of the form
 
-prints_are : (vs : List Tree) → ArePrinted vs ≡ AllByRecursion IsLine (map print vs)
+prints_are : (vs : List Tree) → AllByRecursion (IsPrinted VALUE_LEVELS) vs ≡ AllByRecursion IsLine (map print vs)
 prints_are [] = refl
 prints_are (v ∷ vs) = ap (λ T. IsPrinted VALUE_LEVELS v × T) (prints_are vs)
 
-pub retries_are : (rs : List Retry) → AreFormRetries rs ≡ AllByRecursion IsLine (map retry rs)
+pub retries_are : (rs : List Retry) → AllByRecursion IsFormRetry rs ≡ AllByRecursion IsLine (map retry rs)
 retries_are [] = refl
 retries_are (r ∷ rs) = ap (λ T. IsFormRetry r × T) (retries_are rs)
 
 pub along : {A B : Type 0} → A ≡ B → A → B
 along e a = subst (λ (T : Type 0). T) e a
 
-pub entries_lines : (i : ℕ) (es : List PrintedEntry) → i + length es < 2 ^ 64 → AreFormEntries es → AllByRecursion IsLine (entry_lines i es)
+pub entries_lines : (i : ℕ) (es : List PrintedEntry) → i + length es < 2 ^ 64 → AllByRecursion IsFormEntry es → AllByRecursion IsLine (entry_lines i es)
 entries_lines i [] few p = tt
 entries_lines i (e ∷ es) few p =
     ((omega arith, p.0.shell, p.0.txn, p.0.ended), all_both IsLine (map print e.outputs) (entry_lines (i + 1) es) (along (prints_are e.outputs) p.0.outputs) (entries_lines (i + 1) es (omega arith) p.1))
 
-entries_form : (i : ℕ) (es : List PrintedEntry) → AllByRecursion IsLine (entry_lines i es) → AreFormEntries es
+entries_form : (i : ℕ) (es : List PrintedEntry) → AllByRecursion IsLine (entry_lines i es) → AllByRecursion IsFormEntry es
 entries_form i [] p = tt
 entries_form i (e ∷ es) p =
     let outputs = along (sym (prints_are e.outputs)) (all_front IsLine (map print e.outputs) (entry_lines (i + 1) es) p.1) in

@@ -6,9 +6,6 @@ use Rattle.std.specs.List.{AllByRecursion}
 abbrev pub LacksFeed : List ℕ → Type 0
 LacksFeed bytes = AllByRecursion (λ b. b ≡ 10 → ⊥) bytes
 
-abbrev pub AllLackFeed : List (List ℕ) → Type 0
-AllLackFeed texts = AllByRecursion LacksFeed texts
-
 pub record IsFeedAt (bytes : List ℕ) (i : ℕ) : Type 0 where
   pub within : i < length bytes
   pub before : LacksFeed (take i bytes)

@@ -1,7 +1,6 @@
 -- The form of a report, and the first line at which bytes leave it.
 use Rattle.std.specs.Prelude.{◌≡◌, ℕ, ◌^◌, ◌<◌, List, [], ◌∷◌, ◌++◌, length}
 use Rattle.std.specs.List.{AllByRecursion, flat_map}
-use Rattle.fx_expr.specs.Tree.{Tree}
 use Rattle.fx_store.specs.Names.{IsPath}
 use Rattle.fx_spec.specs.declared.refusal.Refusal.{Refusal}
 use Rattle.fx_spec.specs.declared.refusal.Refusal.TheVariants as refusal
@@ -12,7 +11,7 @@ use Rattle.fx_report.specs.Report.{line, report_text}
 use Rattle.fx_report.specs.declared.printed.PrintedEntry.{PrintedEntry}
 use Rattle.fx_read_report.specs.declared.report.ReportFault.{ReportFault}
 use Rattle.fx_read_report.specs.declared.report.ReportFault.TheVariants.{BadLine, NoMemory}
-use Rattle.fx_read_report.specs.Feeds.{AllLackFeed}
+use Rattle.fx_read_report.specs.Feeds.{LacksFeed}
 use Rattle.fx_read_report.specs.Values.{IsPrinted}
 use Rattle.fx_read_report.specs.declared.values.TheConstants.{VALUE_LEVELS}
 
@@ -26,18 +25,12 @@ abbrev pub IsFormEnd : End → Type 0
 IsFormEnd (end.Stopped command r) = (command < 2 ^ 32) × IsFormRefusal r
 IsFormEnd _ = Unit {0}
 
-abbrev pub ArePrinted : List Tree → Type 0
-ArePrinted values = AllByRecursion (IsPrinted VALUE_LEVELS) values
-
 -- an entry with numbers of 32 bits and outputs that can be printed
 pub record IsFormEntry (e : PrintedEntry) : Type 0 where
   pub shell : e.shell < 2 ^ 32
   pub txn : e.txn < 2 ^ 32
-  pub outputs : ArePrinted e.outputs
+  pub outputs : AllByRecursion (IsPrinted VALUE_LEVELS) e.outputs
   pub ended : IsFormEnd e.end
-
-abbrev pub AreFormEntries : List PrintedEntry → Type 0
-AreFormEntries entries = AllByRecursion IsFormEntry entries
 
 -- a retry with numbers of 32 bits, the number of an entry, and a path
 pub record IsFormRetry (r : Retry) : Type 0 where
@@ -46,15 +39,12 @@ pub record IsFormRetry (r : Retry) : Type 0 where
   pub entry : r.entry < 2 ^ 64
   pub path : IsPath r.path
 
-abbrev pub AreFormRetries : List Retry → Type 0
-AreFormRetries retries = AllByRecursion IsFormRetry retries
-
 -- the lists of a report, which are counted by numbers of 64 bits
 pub record IsReportForm (entries : List PrintedEntry) (retries : List Retry) : Type 0 where
   pub entries_fit : length entries < 2 ^ 64
   pub retries_fit : length retries < 2 ^ 64
-  pub entries_form : AreFormEntries entries
-  pub retries_form : AreFormRetries retries
+  pub entries_form : AllByRecursion IsFormEntry entries
+  pub retries_form : AllByRecursion IsFormRetry retries
 
 -- bytes that are the report of such lists
 pub record IsReportOf (bytes : List ℕ) (entries : List PrintedEntry) (retries : List Retry) : Type 0 where
@@ -67,7 +57,7 @@ pub record BeginsReport (bytes : List ℕ) (number : ℕ) : Type 0 where
   pub rest : List ℕ
   pub parts : bytes ≡ flat_map line lines ++ rest
   pub count : length lines ≡ number
-  pub whole : AllLackFeed lines
+  pub whole : AllByRecursion LacksFeed lines
   pub entries : List PrintedEntry
   pub retries : List Retry
   pub later : List ℕ

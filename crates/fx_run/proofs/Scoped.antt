@@ -1,8 +1,8 @@
 -- Variables of the shapes that a scope gives them, through commands and blocks.
-use Rattle.std.proofs.Common.{◌≡◌, ℕ, true, false, cond, List, [], ◌∷◌, ◌++◌, length, take, Some, None, Result, Ok, Err, refl, ap, ◌∙◌, sym, subst, append-nil, append_assoc}
-use Rattle.std.specs.Prelude.{IfOk, nat_eq, pos}
-use Rattle.std.specs.Cmp.Lexicographic.{pointwise}
-use Rattle.fx_expr.specs.Bindings.{bind, bound, newer_or, assigned, assign_or, own_assigned, first_some, or_same}
+use Rattle.std.proofs.Common.{◌≡◌, ℕ, List, [], ◌∷◌, length, take, Result, Ok, Err, refl, ap, ◌∙◌, sym, subst, append-nil, append_assoc}
+use Rattle.std.specs.Prelude.{IfOk, pos}
+use Rattle.std.specs.Option.{unwrap_or}
+use Rattle.fx_expr.specs.Bindings.{bind, bound, assigned}
 use Rattle.fx_expr.specs.Eval.{Outcome, eval_of}
 use Rattle.fx_expr.specs.ExprTree.{ExprTree}
 use Rattle.fx_expr.specs.ShapeTree.{ShapeTree}
@@ -89,7 +89,7 @@ module _ (old new : Bindings) where
   pub scopes_bind : (x : List ℕ) (e : ExprTree) (v : Tree) → evaluated (eval_of old e) ≡ Ok v → new ≡ bind old x v → Scopes (CommandTree.bind x e) old new (Ok tt)
   scopes_bind x e v is bound scope rest b h = opens_bound scope old new rest x v h.0 b (outcome_has (eval_of old e) v h.0 is (eval_has scope old e h.0 b h.1)) bound h.3
 
-  pub scopes_assign : (x : List ℕ) (e : ExprTree) (v : Tree) → evaluated (eval_of old e) ≡ Ok v → new ≡ or_same old (assigned x v old) → Scopes (CommandTree.assign x e) old new (Ok tt)
+  pub scopes_assign : (x : List ℕ) (e : ExprTree) (v : Tree) → evaluated (eval_of old e) ≡ Ok v → new ≡ unwrap_or (assigned x v old) old → Scopes (CommandTree.assign x e) old new (Ok tt)
   scopes_assign x e v is put scope rest b h =
       opens_same scope new rest (subst (λ n. BindingsHave n scope) (sym put) (set_has old scope x v h.0 b h.2 (outcome_has (eval_of old e) v h.0 is (eval_has scope old e h.0 b h.1)))) h.3
 

@@ -1,19 +1,26 @@
 -- A call has its body's value inside one call more.
 use Rattle.std.proofs.Common.{◌≡◌, ℕ, zero, suc, ◌-◌, refl, ap, ◌∙◌, List, [], Option, Some, None, arith}
-use Rattle.std.specs.Option.{option_map}
+use Rattle.std.specs.Option.{option_map_or}
 use Rattle.fx_store.specs.Rule.{Answer}
 use Rattle.fx_expr.specs.ExprTree.{ExprTree}
 use Rattle.fx_expr.specs.ShapeTree.{ShapeTree}
 use Rattle.fx_spec.specs.Calls.{CallsStandForBodies}
 use Rattle.fx_spec.specs.Describe.{Bindings, arguments, argument_evals, behind, at_body, value}
 use Rattle.fx_spec.specs.SpecTree.{SpecTree}
-use Rattle.fx_spec.specs.Written.{WrittenTree, DefTree, definition, called, meant, without_body, with_body, names_in, part_tree}
+use Rattle.fx_spec.specs.Written.{WrittenTree, DefTree, definition, part_tree}
+
+-- what a call of an optional definition means, where it is unfolded no more, and while it is
+abbrev pub last_of : List ExprTree → Option DefTree → SpecTree
+last_of args o = option_map_or (λ (d : DefTree). SpecTree.last args d.params) o (SpecTree.last args [])
+
+abbrev pub call_of : List DefTree → ℕ → List ExprTree → Option DefTree → SpecTree
+call_of defs n args o = option_map_or (λ (d : DefTree). SpecTree.call args d.params (part_tree defs n d.body)) o (SpecTree.last args [])
 
 -- what a call means while it is unfolded, and where it is not any more
 pub called_below : (defs : List DefTree) (n : ℕ) (f : List ℕ) (args : List ExprTree) (d : DefTree) → definition f defs ≡ Some d → part_tree defs (suc n) (WrittenTree.call f args) ≡ SpecTree.call args d.params (part_tree defs n d.body)
-called_below defs n f args d e = ap (λ o. called args (option_map (with_body (meant (λ g. names_in defs n g))) o)) e
+called_below defs n f args d e = ap (call_of defs n args) e
 
-last_value : (p : List (List ℕ)) (env : Bindings) (args : List ExprTree) (o : Option DefTree) → value p env (called args (option_map without_body o)) ≡ Answer None
+last_value : (p : List (List ℕ)) (env : Bindings) (args : List ExprTree) (o : Option DefTree) → value p env (last_of args o) ≡ Answer None
 unfolding value
 last_value p env args None = refl
 last_value p env args (Some d) = refl
@@ -36,8 +43,8 @@ calls_stand_for_bodies defs p env f args = record {
 
 -- a call is the last one at 64 calls, and where its name has no definition
 pub last_above : (defs : List DefTree) (n : ℕ) (f : List ℕ) (args : List ExprTree) (d : DefTree) → n ≡ 0 → definition f defs ≡ Some d → (params : List (List ℕ × ShapeTree)) × (part_tree defs n (WrittenTree.call f args) ≡ SpecTree.last args params)
-last_above defs n f args d none e = (d.params, ap (λ n. part_tree defs n (WrittenTree.call f args)) none ∙ ap (λ o. called args (option_map without_body o)) e)
+last_above defs n f args d none e = (d.params, ap (λ n. part_tree defs n (WrittenTree.call f args)) none ∙ ap (last_of args) e)
 
 pub last_unknown : (defs : List DefTree) (n : ℕ) (f : List ℕ) (args : List ExprTree) → definition f defs ≡ None → (params : List (List ℕ × ShapeTree)) × (part_tree defs n (WrittenTree.call f args) ≡ SpecTree.last args params)
-last_unknown defs zero f args e = ([], ap (λ o. called args (option_map without_body o)) e)
-last_unknown defs (suc n) f args e = ([], ap (λ o. called args (option_map (with_body (meant (λ g. names_in defs n g))) o)) e)
+last_unknown defs zero f args e = ([], ap (last_of args) e)
+last_unknown defs (suc n) f args e = ([], ap (call_of defs n args) e)

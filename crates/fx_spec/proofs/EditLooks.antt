@@ -13,7 +13,7 @@ use Rattle.fx_store.specs.Rule.{Ask, Answer, Look, Tick, Known, Found, seen, if_
 use Rattle.fx_expr.specs.Sets.{set_of, with_text}
 use Rattle.fx_expr.specs.Tree.{Tree}
 use Rattle.fx_spec.specs.declared.refusal.Refusal.{Refusal}
-use Rattle.fx_spec.specs.Edit.{renewed, is_flag, set_to, removed, names_of, clear_all, cleared, clear_levels, clear, entry, entries, new_names, lacks_room, unless_deep, replaced, made, make, is_too_deep, store_landed, stored_node, follows_last, store_at, bare_node, create_landed, create_at, last_name, without_name, remove_entry, remove_landed, remove_at}
+use Rattle.fx_spec.specs.Edit.{renewed, is_flag, set_to, removed, names_of, cleared, clear_levels, clear, entry, entries, new_names, lacks_room, unless_deep, replaced, made, make, is_too_deep, store_landed, stored_node, follows_last, store_at, bare_node, create_landed, create_at, last_name, without_name, remove_entry, remove_landed, remove_at}
 use Rattle.fx_spec.specs.EditLooks.{EditsLookAtChanges}
 use Rattle.fx_spec.specs.Move.{Answered, unrefused, needed}
 use Rattle.fx_spec.specs.Place.{PlaceTree}
@@ -73,16 +73,16 @@ module _ (known own : Known) where
 
   -- ---- removals
 
-  clears_all : (clear : Path → Ask (List Change)) (q : Path) (names : List (List ℕ)) → ((p : Path) → Gives (clear p) AreKnown) → Gives (clear_all clear q names) AreKnown
+  clears_all : (clear : Path → Ask (List Change)) (q : Path) (names : List (List ℕ)) → ((p : Path) → Gives (clear p) AreKnown) → Gives (entries (λ n. clear (q /ₚ n)) names) AreKnown
   clears_all clear q [] each = gives_changes [] tt
   clears_all clear q (n ∷ names) each =
-      gives_then (clear (q /ₚ n)) (λ first. clear_all clear q names >>= λ rest. Answer (first ++ rest)) AreKnown AreKnown (each (q /ₚ n)) (λ first is.
-      gives_then (clear_all clear q names) (λ rest. Answer (first ++ rest)) AreKnown AreKnown (clears_all clear q names each) (λ rest are. gives_changes (first ++ rest) (both_known first rest is are)))
+      gives_then (clear (q /ₚ n)) (λ first. entries (λ n. clear (q /ₚ n)) names >>= λ rest. Answer (first ++ rest)) AreKnown AreKnown (each (q /ₚ n)) (λ first is.
+      gives_then (entries (λ n. clear (q /ₚ n)) names) (λ rest. Answer (first ++ rest)) AreKnown AreKnown (clears_all clear q names each) (λ rest are. gives_changes (first ++ rest) (both_known first rest is are)))
 
   cleared_known : (clear : Path → Ask (List Change)) (q : Path) (node : Option Node) → ((p : Path) → Gives (clear p) AreKnown) → IsSome (known q) → Gives (cleared q clear node) AreKnown
   cleared_known clear q None each is = gives_changes [] tt
   cleared_known clear q (Some node) each is =
-      gives_then (clear_all clear q (names_of (Some node))) (λ below. Answer (removed q ∷ below)) AreKnown AreKnown (clears_all clear q (names_of (Some node)) each) (λ below are. gives_changes (removed q ∷ below) (is, are))
+      gives_then (entries (λ n. clear (q /ₚ n)) (names_of (Some node))) (λ below. Answer (removed q ∷ below)) AreKnown AreKnown (clears_all clear q (names_of (Some node)) each) (λ below are. gives_changes (removed q ∷ below) (is, are))
 
   clears : (levels : ℕ) (q : Path) → Gives (clear_levels levels q) AreKnown
   clears zero q = gives_changes [] tt

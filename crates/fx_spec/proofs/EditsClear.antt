@@ -18,7 +18,7 @@ use Rattle.fx_store.proofs.Asks.{answer-bind}
 use Rattle.fx_store.proofs.PathLists.{has-text}
 use Rattle.fx_expr.specs.Sets.{set_of}
 use Rattle.fx_text.proofs.Canon.{has_set}
-use Rattle.fx_spec.specs.Edit.{removed, names_of, clear_all, cleared, clear_levels, clear}
+use Rattle.fx_spec.specs.Edit.{removed, names_of, entries, cleared, clear_levels, clear}
 use Rattle.fx_spec.proofs.EditsWhole.{nothing_below}
 
 -- ------------------------------------------------------------------------------------------------ the paths of a removal
@@ -51,11 +51,11 @@ cleared-is zero S p = refl
 cleared-is (suc levels) S p = at (S p) (λ r. cleared-is levels S r)
   where
     all : ((r : List (List ℕ)) → answer S (clear_levels levels r) ≡ map removed (below levels S r)) → (names : List (List ℕ))
-        → answer S (clear_all (λ r. clear_levels levels r) p names) ≡ map removed (below_each (λ n. below levels S (p /ₚ n)) names)
+        → answer S (entries (λ n. clear_levels levels (p /ₚ n)) names) ≡ map removed (below_each (λ n. below levels S (p /ₚ n)) names)
     all next [] = refl
     all next (n ∷ names) =
-        answer-bind S (clear_levels levels (p /ₚ n)) (λ first. clear_all (λ r. clear_levels levels r) p names >>= λ rest. Answer (first ++ rest))
-        ∙ answer-bind S (clear_all (λ r. clear_levels levels r) p names) (λ rest. Answer (answer S (clear_levels levels (p /ₚ n)) ++ rest))
+        answer-bind S (clear_levels levels (p /ₚ n)) (λ first. entries (λ n. clear_levels levels (p /ₚ n)) names >>= λ rest. Answer (first ++ rest))
+        ∙ answer-bind S (entries (λ n. clear_levels levels (p /ₚ n)) names) (λ rest. Answer (answer S (clear_levels levels (p /ₚ n)) ++ rest))
         ∙ (λ i. next (p /ₚ n) i ++ all next names i)
         ∙ sym (map-append removed (below levels S (p /ₚ n)) (below_each (λ n. below levels S (p /ₚ n)) names))
 
@@ -63,7 +63,7 @@ cleared-is (suc levels) S p = at (S p) (λ r. cleared-is levels S r)
         → answer S (cleared p (λ r. clear_levels levels r) x) ≡ map removed (below_node p (λ r. below levels S r) x)
     at None next = refl
     at (Some node) next =
-        answer-bind S (clear_all (λ r. clear_levels levels r) p (names_of (Some node))) (λ b. Answer (removed p ∷ b)) ∙ ap (λ b. removed p ∷ b) (all next (names_of (Some node)))
+        answer-bind S (entries (λ n. clear_levels levels (p /ₚ n)) (names_of (Some node))) (λ b. Answer (removed p ∷ b)) ∙ ap (λ b. removed p ∷ b) (all next (names_of (Some node)))
 
 -- what is there is listed all the way
 mapped_above : (S : Store) → IsWhole S → (q t : List (List ℕ)) → is_some (S (q ++ t)) ≡ true → is_some (S q) ≡ true

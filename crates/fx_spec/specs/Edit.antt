@@ -34,14 +34,15 @@ abbrev pub names_of : Option Node → List (List ℕ)
 names_of (Some (Dir names)) = names
 names_of _ = []
 
--- the entry at a path and all that is below it, removed; so many levels are at most there
-abbrev pub clear_all : (List (List ℕ) → Ask (List Change)) → List (List ℕ) → List (List ℕ) → Ask (List Change)
-clear_all clear q [] = Answer []
-clear_all clear q (n ∷ names) = clear (q /ₚ n) >>= λ first. clear_all clear q names >>= λ rest. Answer (first ++ rest)
+-- what each of the names changes, in order
+abbrev pub entries : (List ℕ → Ask (List Change)) → List (List ℕ) → Ask (List Change)
+entries change [] = Answer []
+entries change (n ∷ names) = change n >>= λ first. entries change names >>= λ rest. Answer (first ++ rest)
 
+-- the entry at a path and all that is below it, removed; so many levels are at most there
 abbrev pub cleared : List (List ℕ) → (List (List ℕ) → Ask (List Change)) → Option Node → Ask (List Change)
 cleared q clear None = Answer []
-cleared q clear (Some node) = clear_all clear q (names_of (Some node)) >>= λ below. Answer (removed q ∷ below)
+cleared q clear (Some node) = entries (λ n. clear (q /ₚ n)) (names_of (Some node)) >>= λ below. Answer (removed q ∷ below)
 
 abbrev pub clear_levels : ℕ → List (List ℕ) → Ask (List Change)
 clear_levels zero q = Answer []
@@ -58,10 +59,6 @@ entry q old new n =
     let added = Look (q /ₚ n) (λ node. Answer (set_to (q /ₚ n) (File [] false) ∷ [])) in
     let dropped = clear (q /ₚ n) in
     cond (has new n) (cond (has old n) (Answer []) added) dropped
-
-abbrev pub entries : (List ℕ → Ask (List Change)) → List (List ℕ) → Ask (List Change)
-entries change [] = Answer []
-entries change (n ∷ names) = change n >>= λ first. entries change names >>= λ rest. Answer (first ++ rest)
 
 -- a directory's names replaced, at a path that has room for names below it
 abbrev pub new_names : List (List ℕ) → List (List ℕ) → List (List ℕ) → Ask (Answered (List Change))

@@ -10,7 +10,7 @@ use Rattle.fx_expr.specs.Tree.{Tree}
 use Rattle.fx_spec.specs.declared.refusal.Refusal.{Refusal}
 use Rattle.fx_spec.specs.SpecTree.{SpecTree}
 use Rattle.fx_spec.specs.Describe.{Bindings, content, file_value, flag_value, dir_value, link_value, exists, focus_path, arguments, argument_evals, behind, value}
-use Rattle.fx_spec.specs.Place.{Step, First, Second, Inside, Down, Body, Elem, Address, PlaceTree, place}
+use Rattle.fx_spec.specs.Place.{Step, First, Second, Inside, Down, Body, Elem, Address, PlaceTree, where_true, place}
 
 -- an answer or a refusal
 abbrev pub Answered : Type 0 → Type 0
@@ -45,11 +45,6 @@ abbrev pub element : Address → Option (List ℕ) → Answered Address
 element a None = Err Refusal.NoElement
 element a (Some t) = Ok (Elem t ∷ a)
 
--- the text, where the test is true
-abbrev pub this_if : List ℕ → Bool → Option (List ℕ)
-this_if t false = None
-this_if t true = Some t
-
 -- a choice among the elements of a comprehension's set
 abbrev pub chosen : Address → (List (List ℕ) → Option (List ℕ)) → Outcome → Answered Address
 chosen a choice (Ok set) = element a (choice (names_in set))
@@ -72,7 +67,7 @@ go_into a p env _ = Answer (Err Refusal.NoStep)
 
 -- `to`: to the element that is this text
 abbrev pub go_to : List ℕ → Address → List (List ℕ) → Bindings → SpecTree → Ask (Answered Address)
-go_to t a p env (SpecTree.comp s x e) = Tick (Answer (chosen a (λ set. this_if t (has_text t set)) (eval_of env e)))
+go_to t a p env (SpecTree.comp s x e) = Tick (Answer (chosen a (λ set. where_true (has_text t set) t) (eval_of env e)))
 go_to t a p env _ = Answer (Err Refusal.NoStep)
 
 -- `down`: to the part at the focus's path, which need not be there

@@ -29,9 +29,9 @@ pub record PlaceTree : Type 0 where
 abbrev pub placed : List (List ℕ) → Bindings → SpecTree → PlaceTree
 placed p env s = record { path = p; env = env; spec = s }
 
-abbrev pub where_true : Bool → PlaceTree → Option PlaceTree
-where_true false at = None
-where_true true at = Some at
+abbrev pub where_true : {A : Type 0} → Bool → A → Option A
+where_true false x = None
+where_true true x = Some x
 
 -- whether a comprehension's set has the element
 abbrev pub has_element : List ℕ → Outcome → Bool

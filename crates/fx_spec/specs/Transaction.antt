@@ -2,10 +2,11 @@
 -- have left, with a position in the description and with its own variables.
 use Rattle.std.specs.Prelude.{ℕ, ◌+◌, pos, Bool, true, false, cond, List, [], ◌∷◌, ◌++◌, take, length, Ok, Err}
 use Rattle.std.specs.FinMap.{get}
+use Rattle.std.specs.Option.{unwrap_or}
 use Rattle.fx_store.specs.declared.changes.Change.{Change}
 use Rattle.fx_store.specs.Rule.{Ask, Answer, ◌>>=◌}
 use Rattle.fx_store.specs.Whole.{Store, Nodes, over_nodes}
-use Rattle.fx_expr.specs.Bindings.{bind, assigned, or_same}
+use Rattle.fx_expr.specs.Bindings.{bind, assigned}
 use Rattle.fx_expr.specs.Eval.{eval_of, text_in, names_in, truth_in}
 use Rattle.fx_expr.specs.Tree.{Tree}
 use Rattle.fx_spec.specs.declared.refusal.End.{End}
@@ -75,7 +76,7 @@ abbrev pub binding : Standing → List ℕ → Tree → Standing
 binding s x v = record s { vars = bind s.vars x v }
 
 abbrev pub assigning : Standing → List ℕ → Tree → Standing
-assigning s x v = record s { vars = or_same s.vars (assigned x v s.vars) }
+assigning s x v = record s { vars = unwrap_or (assigned x v s.vars) s.vars }
 
 -- a command's answer, or the stop at its refusal
 abbrev pub or_stop : {A : Type 0} → ℕ → Standing → (A → Task Flow) → Answered A → Task Flow

@@ -2,7 +2,6 @@ pub mod Behind
 pub mod Bodies
 pub mod Descents
 pub mod Flagging
-pub mod Gives
 pub mod Lining
 pub mod Linking
 pub mod Making

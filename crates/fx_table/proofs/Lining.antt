@@ -1,6 +1,5 @@
 -- The lines of a table, read one after another.
-use Rattle.fx_table.proofs.Prelude.{◌≡◌, ℕ, suc, ◌+◌, ◌-◌, ◌<◌, ◌≤◌, ◌==◌, Bool, true, false, not, cond, ◌||◌, List, [], ◌∷◌, ◌++◌, map, length, take, drop, Some, None, refl, sym, ◌∙◌, ap, subst, arith, append_assoc, append-nil, length-append, length-take, nat_lt, bytes_eq, codes, Less, AllByRecursion, AllWithin, HoldsAt, slice_split, IsStrictlySortedBy, not-true, not-false, eqb-true, eq-eqb, nat_tests, map-append, get_or-take, same_Some, parts_at, all_push, all_last, Change, changed_paths, path_cmp, root_first, Mark, Target, Executable, TableLine, TableLink, IsLine, Setting, AreLinesOver, line_of, read_line, read_parts, link_of, flag_of, is_space, is_feed, links_among, unspelled, read_of, link_by, flag_by, mark_node, line_change, mark_in, line_in, lines_in, AreLines, IsCut, CanFollow, link_bytes, is_over_by, as_line, TakesRoom, IsNextLine, ReadsNext, IsStopped, StopsNext, ReadsBody, BodyCause, sum_by-cons, slice_split_at, length-slice_split, BadName, Strange, TooLarge, BadTable, LoadFault, Refused, ReadFault, NoMemory, Room, read_path, read_link}
-use Rattle.fx_table.proofs.Gives.{link_gives, flag_gives}
+use Rattle.fx_table.proofs.Prelude.{all_last, all_push, parts_at, root_first, changed_paths, read_link, read_path, path_cmp, Change, AreLines, BodyCause, CanFollow, IsCut, IsNextLine, IsStopped, ReadsBody, ReadsNext, StopsNext, TakesRoom, as_line, is_over_by, line_change, line_in, lines_in, link_bytes, mark_in, mark_node, AreLinesOver, Executable, IsLine, Mark, Setting, TableLine, TableLink, Target, flag_by, is_feed, is_space, line_of, link_by, links_among, read_line, read_of, read_parts, unspelled, BadName, BadTable, Strange, TooLarge, LoadFault, NoMemory, ReadFault, Refused, Room, Bool, List, None, Some, [], ap, append-nil, append_assoc, arith, codes, cond, drop, false, length, length-append, length-take, map, not, refl, subst, suc, sym, take, true, ℕ, ◌++◌, ◌+◌, ◌-◌, ◌<◌, ◌==◌, ◌||◌, ◌∙◌, ◌∷◌, ◌≡◌, ◌≤◌, eq-eqb, eqb-true, not-false, not-true, nat_tests, get_or-take, map-append, length-slice_split, slice_split_at, sum_by-cons, same_Some, AllByRecursion, AllWithin, HoldsAt, slice_split, IsStrictlySortedBy, bytes_eq, nat_lt, Less}
 use Rattle.fx_table.proofs.TableLines.{line_is, paths_of, IsNext, table_more, last_next, IsAt, at_start, at_more, at_end, bad_at, misread}
 
 -- ---- a text is cut
@@ -25,16 +24,16 @@ many_parts a b c text rest first = by (slice_split is_space rest) (omega (arith,
     by (d ∷ more) some = refl
 
 pub no_star : (path star : List ℕ) → bytes_eq star (codes "*") ≡ false → None ≡ read_parts (path ∷ star ∷ [])
-no_star path star other = sym (ap (λ b. cond b (flag_of (unspelled path)) None) other)
+no_star path star other = sym (ap (λ b. cond b (flag_by (read_of read_path (unspelled path))) None) other)
 
 pub star_said : (path star : List ℕ) → bytes_eq star (codes "*") ≡ true → flag_by (read_of read_path (unspelled path)) ≡ read_parts (path ∷ star ∷ [])
-star_said path star is = sym (ap (λ b. cond b (flag_of (unspelled path)) None) is ∙ flag_gives (unspelled path))
+star_said path star is = sym (ap (λ b. cond b (flag_by (read_of read_path (unspelled path))) None) is)
 
 pub no_arrow : (path arrow text : List ℕ) → bytes_eq arrow (codes "->") ≡ false → None ≡ read_parts (path ∷ arrow ∷ text ∷ [])
-no_arrow path arrow text other = sym (ap (λ b. cond b (link_of (unspelled path) (unspelled text)) None) other)
+no_arrow path arrow text other = sym (ap (λ b. cond b (link_by (read_of read_path (unspelled path)) (read_of read_link (unspelled text))) None) other)
 
 pub arrow_said : (path arrow text : List ℕ) → bytes_eq arrow (codes "->") ≡ true → link_by (read_of read_path (unspelled path)) (read_of read_link (unspelled text)) ≡ read_parts (path ∷ arrow ∷ text ∷ [])
-arrow_said path arrow text is = sym (ap (λ b. cond b (link_of (unspelled path) (unspelled text)) None) is ∙ link_gives (unspelled path) (unspelled text))
+arrow_said path arrow text is = sym (ap (λ b. cond b (link_by (read_of read_path (unspelled path)) (read_of read_link (unspelled text))) None) is)
 
 pub differs : (a b text : List ℕ) (r : Bool) → b ≡ text → r ≡ not (bytes_eq a b) → r ≡ true → bytes_eq a text ≡ false
 differs a b text r same is holds = ap (bytes_eq a) (sym same) ∙ not-true (bytes_eq a b) (sym is ∙ holds)

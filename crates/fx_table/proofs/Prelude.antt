@@ -38,11 +38,11 @@ pub use Rattle.fx_table.specs.Merges.{CanMerge, MakeLinks, MakesLink, MovesAll, 
 pub use Rattle.fx_table.specs.Places.{rest_of}
 pub use Rattle.fx_table.specs.Remaining.{AreLevels, EntersDirectory, IsLeftBelow, IsLevel, IsNextPath, TakesEntry, TakesPath, from_names, from_path, left_of, names_in}
 pub use Rattle.fx_table.specs.Shaped.{AreOfBytes, AreShaped, HaveNameSets, IsNodeBounded, IsOfBytes, IsTreeShaped, ListsAt, change_of, changes_of}
-pub use Rattle.fx_table.specs.Table.{AreLinesOver, Executable, IsLine, IsLink, IsMark, IsTable, IsTableBehind, Mark, Setting, TableLine, TableLink, Target, body_of, can_mark, can_stand, first_number, flag_at, flag_of, flagged, has_flags, has_place, is_dir, is_feed, is_file, is_flag_mark, is_second, is_space, lacks_flags, line_at, line_of, lines_of, lines_or_none, lines_text, link_in_line, link_of, linked_line, links_among, mark_text, next_line, over, read_body, read_from, read_line, read_lines, read_on, read_parts, read_table, setting_of, table_text, unless_lacking, version_line, with_first}
+pub use Rattle.fx_table.specs.Table.{AreLinesOver, Executable, IsLine, IsLink, IsMark, IsTable, IsTableBehind, Mark, Setting, TableLine, TableLink, Target, body_of, can_mark, can_stand, first_number, flag_at, flag_by, has_flags, has_place, is_dir, is_feed, is_file, is_flag_mark, is_second, is_space, lacks_flags, line_at, line_of, lines_of, lines_text, link_by, link_in_line, links_among, mark_text, next_line, over, read_body, read_from, read_line, read_lines, read_of, read_on, read_parts, read_table, setting_of, table_text, unless_lacking, version_line, with_first}
 pub use Rattle.fx_table.specs.TableLaws.{IsFirstBadLine, IsFirstBadOf, SpellsTable, but_no_link, unlinked}
 pub use Rattle.fx_table.specs.TableSpelling.{byte_before, escaped, is_plain_byte, plain_byte, spelled, spelling, unspelled, upper_digit_value}
 pub use Rattle.fx_table.specs.Texts.{AddsLine, flag_of_node, flags_so_far, line_text_at, lines_so_far}
-pub use Rattle.fx_table.specs.Unspells.{SpellsByte, flag_by, link_by, read_of, result_ok}
+pub use Rattle.fx_table.specs.Unspells.{SpellsByte}
 pub use Rattle.fx_table.specs.declared.descent.Entry.{Entry}
 pub use Rattle.fx_table.specs.declared.descent.Level.{Level}
 pub use Rattle.fx_table.specs.declared.fault.FolderCause.TheVariants.{BadName, BadTable, Strange, TooLarge}
@@ -77,6 +77,7 @@ pub use Rattle.std.specs.Map.{keys_of}
 pub use Rattle.std.specs.Option.{option_and_then, option_or}
 pub use Rattle.std.specs.Ordering.{eq_by_cmp, is_eq, is_lt, ordering_index, ordering_reverse, ordering_then}
 pub use Rattle.std.specs.Prelude.{bytes_eq, is_ok, nat_lt, option_copied, unwrap_or}
+pub use Rattle.std.specs.Result.{result_ok}
 pub use Rattle.std.specs.Slice.Iter.{iter_rest}
 pub use Rattle.std.specs.declared.cmp.Ordering.{Ordering}
 pub use Rattle.std.specs.declared.cmp.Ordering.TheVariants.{Equal, Greater, Less}

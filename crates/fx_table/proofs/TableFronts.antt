@@ -1,5 +1,5 @@
 -- Two tables at the front of one text: one is a front of the other.
-use Rattle.fx_table.proofs.Prelude.{◌≡◌, ◌⊎◌, inl, inr, ℕ, suc, ◌+◌, ◌-◌, List, [], ◌∷◌, ◌++◌, map, length, take, flat_map, All, Result, Ok, Err, refl, sym, ◌∙◌, ap, subst, arith, append_assoc, append-nil, length-append, slice_split, IsStrictlySortedBy, append_cancel_left, map-append, nil_from_length, All-nil, All-cons, All-head, All-tail, same_Some, ascending_front, same_heads, path_cmp, TableLine, IsLine, Setting, AreLinesOver, line_of, lines_text, is_feed, read_line, read_from, lines_or_none, IsFirstBadOf}
+use Rattle.fx_table.proofs.Prelude.{ascending_front, same_heads, path_cmp, AreLinesOver, IsLine, Setting, TableLine, is_feed, line_of, lines_text, read_from, read_line, IsFirstBadOf, All, Err, List, Ok, Result, [], ap, append-nil, append_assoc, arith, flat_map, inl, inr, length, length-append, map, refl, subst, suc, sym, take, ℕ, ◌++◌, ◌+◌, ◌-◌, ◌∙◌, ◌∷◌, ◌≡◌, ◌⊎◌, append_cancel_left, map-append, nil_from_length, All-cons, All-head, All-nil, All-tail, same_Some, slice_split, IsStrictlySortedBy, unwrap_or, result_ok}
 use Rattle.fx_table.proofs.TableLines.{Stands, paths_of, first_line, line_read, lines_are_read, texts_are_lines, bad_line_is_first}
 
 -- ---- a front of a table is a table
@@ -74,13 +74,13 @@ so_many : (n m k : ℕ) → n ≡ m + k → n - k ≡ m
 so_many n m k e = omega arith
 
 -- what the lines before a bad one say is what stands there
-pub lines_before_are : (S : Setting) (first : ℕ) (text : List ℕ) (number : ℕ) (bad : IsFirstBadOf S first text number) → lines_or_none (read_from S first (flat_map (λ line. line ++ 10 ∷ []) (take (number - first) (slice_split is_feed text)))) ≡ bad.lines
+pub lines_before_are : (S : Setting) (first : ℕ) (text : List ℕ) (number : ℕ) (bad : IsFirstBadOf S first text number) → unwrap_or (result_ok (read_from S first (flat_map (λ line. line ++ 10 ∷ []) (take (number - first) (slice_split is_feed text))))) [] ≡ bad.lines
 lines_before_are S first text number bad =
-    ap (λ n. lines_or_none (read_from S first (flat_map (λ line. line ++ 10 ∷ []) (take n (slice_split is_feed text))))) (so_many number (length bad.lines) first bad.bad.place)
-    ∙ ap (λ t. lines_or_none (read_from S first (flat_map (λ line. line ++ 10 ∷ []) (take (length bad.lines) (slice_split is_feed t))))) bad.parts
-    ∙ ap (λ ls. lines_or_none (read_from S first (flat_map (λ line. line ++ 10 ∷ []) ls))) (lines_taken bad.lines bad.rest)
-    ∙ ap (λ t. lines_or_none (read_from S first t)) (text_of_lines bad.lines)
-    ∙ ap lines_or_none (lines_are_read S first bad.lines bad.table)
+    ap (λ n. unwrap_or (result_ok (read_from S first (flat_map (λ line. line ++ 10 ∷ []) (take n (slice_split is_feed text))))) []) (so_many number (length bad.lines) first bad.bad.place)
+    ∙ ap (λ t. unwrap_or (result_ok (read_from S first (flat_map (λ line. line ++ 10 ∷ []) (take (length bad.lines) (slice_split is_feed t))))) []) bad.parts
+    ∙ ap (λ ls. unwrap_or (result_ok (read_from S first (flat_map (λ line. line ++ 10 ∷ []) ls))) []) (lines_taken bad.lines bad.rest)
+    ∙ ap (λ t. unwrap_or (result_ok (read_from S first t)) []) (text_of_lines bad.lines)
+    ∙ ap (λ r. unwrap_or (result_ok r) []) (lines_are_read S first bad.lines bad.table)
 
 -- ---- no table goes on where a line is bad
 

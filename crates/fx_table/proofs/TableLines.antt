@@ -1,7 +1,6 @@
 -- The lines of a table are read back, and no other text is read.
-use Rattle.fx_table.proofs.Prelude.{◌≡◌, ℕ, ◌+◌, ◌<◌, ◌≤◌, ◌==◌, Bool, true, false, cond, ◌&&◌, IsTrue, List, [], ◌∷◌, ◌++◌, length, length-append, codes, map, refl, sym, ap, subst, ◌∙◌, arith, Option, Some, None, Result, Ok, Err, append_assoc, append-nil, All, bytes_eq, is_ok, is_some, nat_lt, is_lt, filter_map, slice_split, join_with_byte, cons_option, IsStrictlySortedBy, false≢true, and_from, nat_tests, same_Some, map-append, All-nil, All-cons, All-head, All-tail, All-append, All-push, All-weaker, All-at, at_middle, same_heads, chosen_some, chosen_ok, IsPath, IsLinkText, path_cmp, path_text, has_link_form, components, is_above, path_total, read_path_text, path_bytes, spelling, unspelled, Mark, Target, Executable, TableLine, mark_text, line_of, lines_text, linked_line, link_of, flagged, flag_of, read_parts, is_space, read_line, Setting, has_place, next_line, with_first, read_on, read_lines, is_feed, read_from, IsMark, IsLine, IsTableBehind, AreLinesOver, IsFirstBadOf, IsStopped, read_of, link_by, flag_by, bytes_eq-Decides, slice_split_none, slice_split_at, length-slice_split, join_with_byte-slice_split, second_true, first_true, PathFault, TooDeep, read_path, read_link, ascending-push, above_from_ascending, path_texts_read, Parts}
+use Rattle.fx_table.proofs.Prelude.{first_true, second_true, All-at, at_middle, same_heads, chosen_ok, chosen_some, Parts, above_from_ascending, ascending-push, path_bytes, read_path_text, path_texts_read, read_link, read_path, IsLinkText, IsPath, components, has_link_form, is_above, path_cmp, path_text, path_total, PathFault, TooDeep, IsStopped, AreLinesOver, Executable, IsLine, IsMark, IsTableBehind, Mark, Setting, TableLine, Target, flag_by, has_place, is_feed, is_space, line_of, lines_text, link_by, mark_text, next_line, read_from, read_line, read_lines, read_of, read_on, read_parts, with_first, IsFirstBadOf, spelling, unspelled, All, Bool, Err, IsTrue, List, None, Ok, Option, Result, Some, [], ap, append-nil, append_assoc, arith, codes, cond, false, is_some, length, length-append, map, refl, subst, sym, true, ℕ, ◌&&◌, ◌++◌, ◌+◌, ◌<◌, ◌==◌, ◌∙◌, ◌∷◌, ◌≡◌, ◌≤◌, and_from, false≢true, nat_tests, map-append, All-append, All-cons, All-head, All-nil, All-push, All-tail, All-weaker, join_with_byte-slice_split, length-slice_split, slice_split_at, slice_split_none, same_Some, bytes_eq-Decides, cons_option, filter_map, join_with_byte, slice_split, IsStrictlySortedBy, is_lt, bytes_eq, is_ok, nat_lt, result_ok}
 use Rattle.fx_store.specs.declared.name.PathFault.TheVariants.{BadName}
-use Rattle.fx_table.proofs.Gives.{link_gives, flag_gives, read_from_bytes}
 use Rattle.fx_table.proofs.TableSpelling.{spelling_read, read_spelling, spelling_visible}
 
 -- ---- paths and link texts
@@ -15,6 +14,15 @@ spared_ok false x f a e = (refl, cc)
 
 not_many : (n : ℕ) → nat_lt 64 n ≡ false → n ≤ 64
 not_many n h = grind (arith, nat_tests)
+
+-- what was read was read from bytes
+read_from_bytes : {A : Type 0} (read : List ℕ → Result A PathFault) (o : Option (List ℕ)) (a : A) → read_of read o ≡ Some a → (bytes : List ℕ) × (o ≡ Some bytes) × (read bytes ≡ Ok a)
+read_from_bytes read None a e = cc
+read_from_bytes {A} read (Some bytes) a e = (bytes, refl, by (read bytes) e)
+  where
+    by : (r : Result A PathFault) → result_ok r ≡ Some a → r ≡ Ok a
+    by (Ok b) e = let same : b ≡ a = cc in ap (λ x. Ok x) same
+    by (Err fault) e = cc
 
 -- what a spelled path is read from
 path_of_read : (spelled : List ℕ) (p : Parts) → read_of read_path (unspelled spelled) ≡ Some p → (spelling (path_text p) ≡ spelled) × IsPath p
@@ -64,12 +72,12 @@ flag_parts path = slice_split_at is_space (spelling (path_text path)) 32 (codes 
 marked_read : (path : Parts) (mark : Mark) → IsPath path → IsMark mark → read_line (spelling (path_text path) ++ mark_text mark) ≡ Some (record { path = path; mark = mark })
 marked_read path (Target text) valid is =
     ap read_parts (line_parts path text)
-    ∙ (ap (λ p. link_of p (unspelled (spelling text))) (spelling_read (path_text path) (path_bytes path valid.names))
-    ∙ (ap (link_of (Some (path_text path))) (spelling_read text is.bytes)
-    ∙ (ap (λ p. linked_line p (read_link text)) (read_path_text path valid) ∙ ap (linked_line (Ok path)) (read_link_text text is))))
+    ∙ (ap (λ p. link_by (read_of read_path p) (read_of read_link (unspelled (spelling text)))) (spelling_read (path_text path) (path_bytes path valid.names))
+    ∙ (ap (λ t. link_by (result_ok (read_path (path_text path))) (read_of read_link t)) (spelling_read text is.bytes)
+    ∙ (ap (λ r. link_by (result_ok r) (result_ok (read_link text))) (read_path_text path valid) ∙ ap (λ r. link_by (Some path) (result_ok r)) (read_link_text text is))))
 marked_read path Executable valid is =
     ap read_parts (flag_parts path)
-    ∙ (ap flag_of (spelling_read (path_text path) (path_bytes path valid.names)) ∙ ap flagged (read_path_text path valid))
+    ∙ (ap (λ p. flag_by (read_of read_path p)) (spelling_read (path_text path) (path_bytes path valid.names)) ∙ ap (λ r. flag_by (result_ok r)) (read_path_text path valid))
 
 pub line_read : (l : TableLine) → IsLine l → read_line (line_of l) ≡ Some l
 line_read l valid = marked_read l.path l.mark valid.path valid.mark
@@ -99,11 +107,11 @@ parts_are : (parts : List (List ℕ)) (l : TableLine) → read_parts parts ≡ S
 parts_are [] l is = absurd (false≢true (ap is_some is))
 parts_are (a ∷ []) l is = absurd (false≢true (ap is_some is))
 parts_are (a ∷ star ∷ []) l is =
-    let both = chosen_some (bytes_eq star (codes "*")) (flag_of (unspelled a)) l is in
-    subst (λ m. IsLineOf (a ++ 32 ∷ m) l) (sym ((bytes_eq-Decides star (codes "*")).0 both.0)) (flag_is a _ l refl (sym (flag_gives (unspelled a)) ∙ both.1))
+    let both = chosen_some (bytes_eq star (codes "*")) (flag_by (read_of read_path (unspelled a))) l is in
+    subst (λ m. IsLineOf (a ++ 32 ∷ m) l) (sym ((bytes_eq-Decides star (codes "*")).0 both.0)) (flag_is a _ l refl both.1)
 parts_are (a ∷ arrow ∷ b ∷ []) l is =
-    let both = chosen_some (bytes_eq arrow (codes "->")) (link_of (unspelled a) (unspelled b)) l is in
-    subst (λ m. IsLineOf (a ++ 32 ∷ (m ++ 32 ∷ b)) l) (sym ((bytes_eq-Decides arrow (codes "->")).0 both.0)) (link_is a b _ _ l refl refl (sym (link_gives (unspelled a) (unspelled b)) ∙ both.1))
+    let both = chosen_some (bytes_eq arrow (codes "->")) (link_by (read_of read_path (unspelled a)) (read_of read_link (unspelled b))) l is in
+    subst (λ m. IsLineOf (a ++ 32 ∷ (m ++ 32 ∷ b)) l) (sym ((bytes_eq-Decides arrow (codes "->")).0 both.0)) (link_is a b _ _ l refl refl both.1)
 parts_are (a ∷ b ∷ c ∷ d ∷ more) l is = absurd (false≢true (ap is_some is))
 
 pub line_is : (line : List ℕ) (l : TableLine) → read_line line ≡ Some l → IsLineOf line l

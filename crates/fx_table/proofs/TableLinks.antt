@@ -1,24 +1,27 @@
 -- The lines of a whole filestore are a table over the rest of it.
-use Rattle.fx_table.proofs.Prelude.{◌≡◌, ℕ, suc, ◌-◌, ◌<◌, true, false, cond, List, [], ◌∷◌, ◌++◌, length, take, map, get_or, refl, sym, ap, subst, ◌∙◌, arith, Option, Some, None, IsSome, is_some, All, Bool, IfSome, IsTrue, eq_by_cmp, is_eq, ordering_reverse, Less, filter_map, AllByRecursion, IsStrictlySortedBy, keys_of, get, entries, find, get-entries, entries_sorted, false≢true, All-nil, All-cons, strictly_sorted, Node, File, Dir, Link, path_cmp, IsPath, path_total, Store, Nodes, IsWhole, IsNode, lists, root_first, Target, Executable, TableLine, line_at, lines_of, is_dir, is_file, can_stand, has_place, IsMark, IsLine, IsTable, but_no_link, unlinked, eq_by_cmp_equiv, take-length, take-suc, parent, over, Parts}
+use Rattle.fx_table.proofs.Prelude.{strictly_sorted, Parts, root_first, IsPath, path_cmp, path_total, parent, IsNode, IsWhole, Nodes, Store, lists, Node, Dir, File, Link, Executable, IsLine, IsMark, IsTable, TableLine, Target, can_stand, has_place, is_dir, is_file, line_at, lines_of, over, but_no_link, unlinked, All, Bool, IfSome, IsSome, IsTrue, List, None, Option, Some, [], ap, arith, cond, false, get_or, is_some, length, map, refl, subst, suc, sym, take, true, ℕ, ◌++◌, ◌-◌, ◌<◌, ◌∙◌, ◌∷◌, ◌≡◌, take-length, take-suc, false≢true, All-cons, All-nil, eq_by_cmp_equiv, entries, entries_sorted, find, get, get-entries, AllByRecursion, filter_map, IsStrictlySortedBy, keys_of, eq_by_cmp, is_eq, ordering_reverse, Ordering, Less}
+use Rattle.std.specs.Cmp.{IsTotalOrder}
 
--- ---- each entry is found by its path
+-- ---- each entry is found by its key
 
-abbrev pub AreFound : List (Parts × Node) → List (Parts × Node) → Type 0
-AreFound [] es = Unit {0}
-AreFound (f ∷ fs) es = (find path_cmp f.0 es ≡ Some f.1) × AreFound fs es
+abbrev pub AreFound : {K X : Type 0} → (K → K → Ordering) → List (K × X) → List (K × X) → Type 0
+AreFound R [] es = Unit {0}
+AreFound R (f ∷ fs) es = (find R f.0 es ≡ Some f.1) × AreFound R fs es
 
-not_tied : (p q : Parts) → path_cmp p q ≡ Less → eq_by_cmp path_cmp q p ≡ false
-not_tied p q e = ap is_eq (path_total.antisymm q p ∙ ap ordering_reverse e)
+module _ {K : Type 0} {R : K → K → Ordering} (order : IsTotalOrder R) where
+  not_tied : (p q : K) → R p q ≡ Less → eq_by_cmp R q p ≡ false
+  not_tied p q e = ap is_eq (order.antisymm q p ∙ ap ordering_reverse e)
 
-found_behind : (e : Parts × Node) (fs es : List (Parts × Node)) → AllByRecursion (λ p. path_cmp e.0 p ≡ Less) (keys_of fs) → AreFound fs es → AreFound fs (e ∷ es)
-found_behind e [] es less found = tt
-found_behind e (f ∷ fs) es less found =
-    (ap (λ b. cond b (Some e.1) (find path_cmp f.0 es)) (not_tied e.0 f.0 less.0) ∙ found.0, found_behind e fs es less.1 found.1)
+  module _ {X : Type 0} where
+    found_behind : (e : K × X) (fs es : List (K × X)) → AllByRecursion (λ p. R e.0 p ≡ Less) (keys_of fs) → AreFound R fs es → AreFound R fs (e ∷ es)
+    found_behind e [] es less found = tt
+    found_behind e (f ∷ fs) es less found =
+        (ap (λ b. cond b (Some e.1) (find R f.0 es)) (not_tied e.0 f.0 less.0) ∙ found.0, found_behind e fs es less.1 found.1)
 
-pub all_found : (es : List (Parts × Node)) → IsStrictlySortedBy path_cmp (keys_of es) → AreFound es es
-unfolding IsStrictlySortedBy
-all_found [] up = tt
-all_found (e ∷ es) up = (ap (λ b. cond b (Some e.1) (find path_cmp e.0 es)) ((eq_by_cmp_equiv path_total).refl e.0), found_behind e es es up.0 (all_found es up.1))
+    pub all_found : (es : List (K × X)) → IsStrictlySortedBy R (keys_of es) → AreFound R es es
+    unfolding IsStrictlySortedBy
+    all_found [] up = tt
+    all_found (e ∷ es) up = (ap (λ b. cond b (Some e.1) (find R e.0 es)) ((eq_by_cmp_equiv order).refl e.0), found_behind e es es up.0 (all_found es up.1))
 
 -- ---- a link of a whole filestore
 
@@ -97,7 +100,7 @@ more S l ls valid stand some later = record {
 }
 
 module _ (nodes : Nodes) (whole : IsWhole (get nodes)) where
-  are_lines : (es : List (Parts × Node)) → AreFound es (entries nodes) → AreLines (get nodes) (lines_among es)
+  are_lines : (es : List (Parts × Node)) → AreFound path_cmp es (entries nodes) → AreLines (get nodes) (lines_among es)
   are_lines [] found = record { valid = All-nil IsLine; stand = All-nil (HasPlace (get nodes)); below = tt }
   are_lines ((p, File bytes false) ∷ es) found = are_lines es found.1
   are_lines ((p, Dir names) ∷ es) found = are_lines es found.1
@@ -120,5 +123,5 @@ pub lines_are_tables : (nodes : Nodes) → IsWhole (get nodes) → IsTable (unli
 unfolding IsStrictlySortedBy
 lines_are_tables nodes whole =
     let up = strictly_sorted path_cmp (entries nodes) (entries_sorted nodes) in
-    let all = are_lines nodes whole (entries nodes) (all_found (entries nodes) up) in
+    let all = are_lines nodes whole (entries nodes) (all_found path_total (entries nodes) up) in
     record { valid = all.valid; stand = all.stand; ascending = (all.below, sorted_kept (entries nodes) up) }

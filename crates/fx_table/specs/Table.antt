@@ -1,9 +1,11 @@
 -- The table file, in which a folder keeps its links and which of its files are executable: a line for each, in order of path.
-use Rattle.std.specs.Prelude.{ℕ, ◌+◌, ◌-◌, ◌==◌, Bool, true, false, cond, ◌&&◌, not, is_none, List, [], ◌∷◌, ◌++◌, map, take, drop, All, IsTrue, codes, bytes_eq, Option, Some, None, Result, Ok, Err, ⊤}
+use Rattle.std.specs.Prelude.{ℕ, ◌+◌, ◌-◌, ◌==◌, Bool, true, false, cond, ◌&&◌, not, is_none, List, [], ◌∷◌, ◌++◌, map, take, drop, All, IsTrue, codes, bytes_eq, unwrap_or, Option, Some, None, Result, Ok, Err, ⊤}
 use Rattle.std.specs.Ordering.{is_lt, eq_by_cmp}
 use Rattle.std.specs.List.{flat_map, filter_map, list_any, slice_split}
 use Rattle.std.specs.List.Sorted.{IsStrictlySortedBy}
 use Rattle.std.specs.FinMap.{entries}
+use Rattle.std.specs.Option.{option_map, option_and_then}
+use Rattle.std.specs.Result.{result_ok}
 use Rattle.fx_store.specs.declared.node.Node.{Node}
 use Rattle.fx_store.specs.declared.node.Node.TheVariants.{File, Dir, Link}
 use Rattle.fx_store.specs.declared.name.PathFault.{PathFault}
@@ -53,13 +55,9 @@ table_text lines = cond (has_flags lines) version_line [] ++ lines_text lines
 
 -- ---- the table of a filestore
 
-abbrev pub flag_line : Bool → List (List ℕ) → Option TableLine
-flag_line true path = Some (record { path = path; mark = Executable })
-flag_line false path = None
-
 -- the line of what stands at a path: a link has one, and a file that is executable
 abbrev pub line_at : List (List ℕ) × Node → Option TableLine
-line_at (path, File bytes exec) = flag_line exec path
+line_at (path, File bytes exec) = cond exec (Some (record { path = path; mark = Executable })) None
 line_at (path, Dir names) = None
 line_at (path, Link text) = Some (record { path = path; mark = Target text })
 
@@ -69,28 +67,21 @@ lines_of nodes = filter_map line_at (entries nodes)
 
 -- ---- how a line is read
 
--- a path and a text of a link that were read
-abbrev pub linked_line : Result (List (List ℕ)) PathFault → Result (List ℕ) PathFault → Option TableLine
-linked_line (Ok path) (Ok text) = Some (record { path = path; mark = Target text })
-linked_line _ _ = None
+-- what was read of bytes, if there are any and they could be read
+abbrev pub read_of : {A : Type 0} → (List ℕ → Result A PathFault) → Option (List ℕ) → Option A
+read_of read bytes = option_and_then (λ bytes. result_ok (read bytes)) bytes
 
-abbrev pub link_of : Option (List ℕ) → Option (List ℕ) → Option TableLine
-link_of (Some path) (Some text) = linked_line (read_path path) (read_link text)
-link_of _ _ = None
+-- the line of a path and of what it leads to, or of a path alone, if they could be read
+abbrev pub link_by : Option (List (List ℕ)) → Option (List ℕ) → Option TableLine
+link_by path text = option_and_then (λ p. option_map (λ t. record { path = p; mark = Target t }) text) path
 
--- a path of a file that was read
-abbrev pub flagged : Result (List (List ℕ)) PathFault → Option TableLine
-flagged (Ok path) = Some (record { path = path; mark = Executable })
-flagged (Err fault) = None
-
-abbrev pub flag_of : Option (List ℕ) → Option TableLine
-flag_of (Some path) = flagged (read_path path)
-flag_of None = None
+abbrev pub flag_by : Option (List (List ℕ)) → Option TableLine
+flag_by path = option_map (λ p. record { path = p; mark = Executable }) path
 
 -- the line of its parts: a spelled path text, and a star; or one, an arrow and a spelled link text
 abbrev pub read_parts : List (List ℕ) → Option TableLine
-read_parts (path ∷ star ∷ []) = cond (bytes_eq star (codes "*")) (flag_of (unspelled path)) None
-read_parts (path ∷ arrow ∷ text ∷ []) = cond (bytes_eq arrow (codes "->")) (link_of (unspelled path) (unspelled text)) None
+read_parts (path ∷ star ∷ []) = cond (bytes_eq star (codes "*")) (flag_by (read_of read_path (unspelled path))) None
+read_parts (path ∷ arrow ∷ text ∷ []) = cond (bytes_eq arrow (codes "->")) (link_by (read_of read_path (unspelled path)) (read_of read_link (unspelled text))) None
 read_parts _ = None
 
 abbrev pub is_space : ℕ → Bool
@@ -195,14 +186,10 @@ unless_lacking text (Err number) = Err number
 abbrev pub read_table : Store → List ℕ → Result (List TableLine) ℕ
 read_table S text = unless_lacking text (read_body S text)
 
-abbrev pub lines_or_none : Result (List TableLine) ℕ → List TableLine
-lines_or_none (Ok lines) = lines
-lines_or_none (Err number) = []
-
 -- what the lines before a bad one say
 abbrev pub lines_before : Store → List ℕ → ℕ → List TableLine
 lines_before S text number =
-    lines_or_none (read_from (setting_of S text) (first_number text) (flat_map (λ line. line ++ 10 ∷ []) (take (number - first_number text) (slice_split is_feed (body_of text)))))
+    unwrap_or (result_ok (read_from (setting_of S text) (first_number text) (flat_map (λ line. line ++ 10 ∷ []) (take (number - first_number text) (slice_split is_feed (body_of text)))))) []
 
 -- ---- the lines of a table
 

@@ -1,7 +1,6 @@
 //! The parts of a line of the table file.
 ghost use Rattle.std.specs.Prelude.{◌≡◌, IfOk, IfSome, option_map};
 ghost use Rattle.fx_table.specs.TableSpelling.{unspelled};
-ghost use Rattle.fx_table.specs.Table.{link_of, flag_of};
 ghost use Rattle.fx_table.specs.Unspells.{GivesPath, GivesText, GivesLink, GivesFlag};
 
 use crate::line::{Mark, TableLine};

@@ -3,8 +3,9 @@ use Rattle.std.proofs.Common.{◌≡◌, ℕ, Bool, true, false, cond, ◌||◌,
 use Rattle.std.specs.Cmp.Lexicographic.{pointwise, slice_cmp}
 use Rattle.std.specs.Ordering.{is_lt, nat_cmp}
 use Rattle.std.proofs.lemmas.Bool.{or_right}
+use Rattle.std.specs.Option.{option_or}
 use Rattle.fx_base.proofs.Orders.{bytes_itself}
-use Rattle.fx_text.specs.Sets.{has_text, least, least_above, greatest_below, later_or}
+use Rattle.fx_text.specs.Sets.{has_text, least, least_above, greatest_below}
 
 has_this : (u v : List ℕ) (us : List (List ℕ)) → v ≡ u → has_text u (v ∷ us) ≡ true
 has_this u v us same = ap (λ b. b || has_text u us) (ap (λ w. pointwise nat_eq v w) (sym same) ∙ bytes_itself v)
@@ -24,7 +25,7 @@ pub has_above : (t : List ℕ) (set : List (List ℕ)) (u : List ℕ) → least_
 has_above t [] u e = absurd (cc)
 has_above t (v ∷ us) u e = above_or (is_lt (slice_cmp nat_cmp t v)) u v us (least_above t us) (λ h. has_above t us u h) e
 
-below_or : (rest : Option (List ℕ)) (b : Bool) (u v : List ℕ) (us : List (List ℕ)) → (rest ≡ Some u → has_text u us ≡ true) → later_or rest (cond b (Some v) None) ≡ Some u → has_text u (v ∷ us) ≡ true
+below_or : (rest : Option (List ℕ)) (b : Bool) (u v : List ℕ) (us : List (List ℕ)) → (rest ≡ Some u → has_text u us ≡ true) → option_or rest (cond b (Some v) None) ≡ Some u → has_text u (v ∷ us) ≡ true
 below_or (Some w) b u v us later e = has_later u v us (later e)
 below_or None true u v us later e = let same : v ≡ u = cc in has_this u v us same
 below_or None false u v us later e = absurd (cc)

@@ -9,7 +9,8 @@ use Rattle.std.proofs.lemmas.Bool.{cases_lt}
 use Rattle.std.proofs.lemmas.Map.Keys.{Less-from_sorted}
 use Rattle.std.proofs.lemmas.Map.Lookups.{exact_bytes}
 use Rattle.std.proofs.lemmas.Option.{slice_get-get_or}
-use Rattle.fx_text.specs.Sets.{IsAscending, least_above, greatest_below, later_or, item_before}
+use Rattle.std.specs.Option.{option_or}
+use Rattle.fx_text.specs.Sets.{IsAscending, least_above, greatest_below, item_before}
 
 reversed : (x y : List ℕ) → slice_cmp nat_cmp x y ≡ ordering_reverse (slice_cmp nat_cmp y x)
 reversed x y = nat_list_cmp_total.antisymm x y
@@ -23,20 +24,20 @@ above_at t (u ∷ us) (suc k) low high =
     ap (λ b. cond b (Some u) (least_above t us)) (low 0 u (omega arith) (omega arith))
     ∙ above_at t us k (λ j d lt within. low (suc j) d (omega arith) (omega arith)) (λ d within. high d (omega arith))
 
-later_here : (u : List ℕ) (us : List (List ℕ)) (k : ℕ) → k ≤ length us → later_or (item_before k us) (Some u) ≡ slice_get (u ∷ us) k
+later_here : (u : List ℕ) (us : List (List ℕ)) (k : ℕ) → k ≤ length us → option_or (item_before k us) (Some u) ≡ slice_get (u ∷ us) k
 later_here u us zero within = refl
-later_here u us (suc k) within = ap (λ o. later_or o (Some u)) (slice_get-get_or us k u (omega arith)) ∙ sym (slice_get-get_or us k u (omega arith))
+later_here u us (suc k) within = ap (λ o. option_or o (Some u)) (slice_get-get_or us k u (omega arith)) ∙ sym (slice_get-get_or us k u (omega arith))
 
 below_at : (t : List ℕ) (xs : List (List ℕ)) (k : ℕ) → k ≤ length xs → ((j : ℕ) (d : List ℕ) → j < k → is_lt (slice_cmp nat_cmp (get_or xs j d) t) ≡ true)
     → ((j : ℕ) (d : List ℕ) → k ≤ j → j < length xs → is_lt (slice_cmp nat_cmp (get_or xs j d) t) ≡ false) → greatest_below t xs ≡ item_before k xs
 below_at t [] zero within low high = refl
 below_at t [] (suc k) within low high = absurd (omega arith)
 below_at t (u ∷ us) zero within low high =
-    ap (λ b. later_or (greatest_below t us) (cond b (Some u) None)) (high 0 u (omega arith) (omega arith))
-    ∙ ap (λ o. later_or o None) (below_at t us zero (omega arith) (λ j d lt. absurd (omega arith)) (λ j d le within. high (suc j) d (omega arith) (omega arith)))
+    ap (λ b. option_or (greatest_below t us) (cond b (Some u) None)) (high 0 u (omega arith) (omega arith))
+    ∙ ap (λ o. option_or o None) (below_at t us zero (omega arith) (λ j d lt. absurd (omega arith)) (λ j d le within. high (suc j) d (omega arith) (omega arith)))
 below_at t (u ∷ us) (suc k) within low high =
-    ap (λ b. later_or (greatest_below t us) (cond b (Some u) None)) (low 0 u (omega arith))
-    ∙ ap (λ o. later_or o (Some u)) (below_at t us k (omega arith) (λ j d lt. low (suc j) d (omega arith)) (λ j d le lt. high (suc j) d (omega arith) (omega arith)))
+    ap (λ b. option_or (greatest_below t us) (cond b (Some u) None)) (low 0 u (omega arith))
+    ∙ ap (λ o. option_or o (Some u)) (below_at t us k (omega arith) (λ j d lt. low (suc j) d (omega arith)) (λ j d le lt. high (suc j) d (omega arith) (omega arith)))
     ∙ later_here u us k (omega arith)
 
 -- ---- where a search has found the text

@@ -3,8 +3,9 @@ use Rattle.std.specs.Prelude.{◌≡◌, ℕ, zero, suc, ◌+◌, Bool, cond, no
 use Rattle.std.specs.List.{filter, list_any, sum_by}
 use Rattle.std.specs.List.Sorted.{IsStrictlySortedBy}
 use Rattle.std.specs.Cmp.Lexicographic.{pointwise, slice_cmp}
+use Rattle.std.specs.Option.{option_or}
 use Rattle.std.specs.Ordering.{is_lt, nat_cmp}
-use Rattle.fx_base.specs.Sets as base
+pub use Rattle.fx_base.specs.Sets.{with_text}
 
 -- each text is below all later ones, in the order of their bytes
 abbrev pub IsAscending : List (List ℕ) → Type 0
@@ -13,10 +14,6 @@ IsAscending xs = IsStrictlySortedBy (slice_cmp nat_cmp) xs
 -- whether the text is one of these
 abbrev pub has_text : List ℕ → List (List ℕ) → Bool
 has_text x xs = list_any (λ y. pointwise nat_eq y x) xs
-
--- the set with one more text, in its place
-abbrev pub with_text : List ℕ → List (List ℕ) → List (List ℕ)
-with_text = base.with_text
 
 -- the set of these texts, in any order and with repeats
 abbrev pub set_of : List (List ℕ) → List (List ℕ)
@@ -50,10 +47,6 @@ abbrev pub item_before : ℕ → List (List ℕ) → Option (List ℕ)
 item_before zero ts = None
 item_before (suc i) ts = slice_get ts i
 
-abbrev pub later_or : Option (List ℕ) → Option (List ℕ) → Option (List ℕ)
-later_or (Some t) u = Some t
-later_or None u = u
-
 abbrev pub greatest_below : List ℕ → List (List ℕ) → Option (List ℕ)
 greatest_below t [] = None
-greatest_below t (u ∷ us) = later_or (greatest_below t us) (cond (is_lt (slice_cmp nat_cmp u t)) (Some u) None)
+greatest_below t (u ∷ us) = option_or (greatest_below t us) (cond (is_lt (slice_cmp nat_cmp u t)) (Some u) None)

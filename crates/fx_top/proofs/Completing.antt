@@ -25,26 +25,26 @@ use Rattle.fx_run_commands.proofs.Runs.Ending.{no_memory}
 use Rattle.fx_commands.proofs.Shows.Completing.{show_completes}
 use Rattle.fx_views_command.proofs.Completing.{views_completes}
 use Rattle.fx_views_command.proofs.Ending as viewing
-use Rattle.fx_top.specs.Rows.{AsksInside, Row, LeavesDisk, KeepsWrittenOrder, IsProper, HasDiskFault, Completes}
+use Rattle.fx_top.specs.Rows.{AsksInside, Row, LeavesDisk, KeepsWrittenOrder, IsProper, Completes}
 use Rattle.fx_words.specs.Job.{Job, Run, Show, Gen, Large, Audit, Journal, Recover, Views}
 
 abbrev Ends : Status → Type 0
 Ends st = (st ≡ status.Done) ⊎ (st ≡ status.NoMemory)
 
-told : (j : Job) (t : Tree) (host host' : HostView) (sink sink' : SinkView) (disk disk' : DiskView) (st : Status) → host.told ≡ Some t → IsProper t disk j → (Rose host.faults host'.faults → ⊥) → (Rose sink.faults sink'.faults → ⊥) → (HasDiskFault j disk disk' → ⊥) → Row j host host' sink sink' disk disk' st → Ends st
+told : (j : Job) (t : Tree) (host host' : HostView) (sink sink' : SinkView) (disk disk' : DiskView) (st : Status) → host.told ≡ Some t → IsProper t disk j → (Rose host.faults host'.faults → ⊥) → (Rose sink.faults sink'.faults → ⊥) → (Rose disk.faults disk'.faults → ⊥) → Row j host host' sink sink' disk disk' st → Ends st
 told (Run j) t host host' sink sink' disk disk' st is proper none quiet calm row = run_completes j t host host' sink sink' st is proper none quiet row
 told (Show j) t host host' sink sink' disk disk' st is proper none quiet calm row = show_completes j t host host' sink sink' st is proper none quiet row
 told (Gen j) t host host' sink sink' disk disk' st is proper none quiet calm row = tables.completes (making_only (gen_making j.number j.out)) t host host' sink sink' st is (nothing_refused host host') proper none quiet row
 told (Large j) t host host' sink sink' disk disk' st is proper none quiet calm row = tables.completes (making_only (large_making j.number j.out)) t host host' sink sink' st is (nothing_refused host host') proper none quiet row
-told (Audit j) t host host' sink sink' disk disk' st is proper none quiet calm row = audit_completes j t host host' sink sink' st is proper none quiet row
-told (Journal j) t host host' sink sink' disk disk' st is proper none quiet calm row = journal_completes j t host host' sink sink' disk disk' st is proper none quiet calm row
-told (Recover j) t host host' sink sink' disk disk' st is proper none quiet calm row = recover_completes j t host host' sink sink' disk disk' is proper none quiet calm st row
-told (Views j) t host host' sink sink' disk disk' st is proper none quiet calm row = views_completes j t host host' sink sink' st is proper none quiet row
+told (Audit j) t host host' sink sink' disk disk' st is proper none quiet calm row = audit_completes j t host host' is proper.0 proper.1 proper.2 none sink sink' st quiet row
+told (Journal j) t host host' sink sink' disk disk' st is proper none quiet calm row = journal_completes j t host host' sink sink' disk disk' st is proper.0 proper.1 none quiet calm row
+told (Recover j) t host host' sink sink' disk disk' st is proper none quiet calm row = recover_completes j t host host' disk disk' is proper.0 proper.1 none calm sink sink' st quiet row
+told (Views j) t host host' sink sink' disk disk' st is proper none quiet calm row = views_completes j t host host' sink sink' st is proper.0 proper.1 none quiet row
 
 pub completes : (j : Job) (host host' : HostView) (sink sink' : SinkView) (disk disk' : DiskView) (st : Status) → Row j host host' sink sink' disk disk' st → Completes j host host' sink sink' disk disk' st
 completes j host host' sink sink' disk disk' st row = by host.told refl
   where
-    by : (o : Option Tree) → host.told ≡ o → IfSome o (λ t. IsProper t disk j → (Rose host.faults host'.faults → ⊥) → (Rose sink.faults sink'.faults → ⊥) → (HasDiskFault j disk disk' → ⊥) → Ends st)
+    by : (o : Option Tree) → host.told ≡ o → IfSome o (λ t. IsProper t disk j → (Rose host.faults host'.faults → ⊥) → (Rose sink.faults sink'.faults → ⊥) → (Rose disk.faults disk'.faults → ⊥) → Ends st)
     by None is = tt
     by (Some t) is = λ proper none quiet calm. told j t host host' sink sink' disk disk' st is proper none quiet calm row
 

@@ -1,8 +1,9 @@
 -- From the stages of reading to the last one.
-use Rattle.std.proofs.Common.{ℕ, Bool, List, IfSome}
+use Rattle.std.proofs.Common.{ℕ, List, IfSome}
 use Rattle.fx_store.specs.Whole.{Nodes}
 use Rattle.fx_outside.specs.Host.{HostView, ReadsOnly}
 use Rattle.fx_outside.specs.Tree.{Tree}
+use Rattle.fx_folder.specs.declared.readying.Out.{Out}
 use Rattle.fx_folder.specs.Folder.{IsReady}
 use Rattle.fx_spec.specs.Order.{BaseTree}
 use Rattle.fx_spec.specs.Plans.{script_of}
@@ -22,7 +23,7 @@ pub inputs_read : (j : ViewsJob) (base views : BaseTree) (a b : HostView) → Re
 inputs_read j base views a b reads is =
     then_told (λ t. HasViewsInputs t j) a b reads (if_some_map (λ t. HasBases t j base views) (λ t. HasViewsInputs t j) a.told (λ t is. has_inputs t j base views is) is)
 
-coming : (t : Tree) (j : ViewsJob) (base views : BaseTree) (last : Nodes) (output : List ℕ) (there : Bool) → IsViewsRunFrom base (script_of views.plan 0) last output → HasBases t j base views → IsReady t j.out there → IsComing (views_making j) t (last, output) there
+coming : (t : Tree) (j : ViewsJob) (base views : BaseTree) (last : Nodes) (output : List ℕ) (there : Out) → IsViewsRunFrom base (script_of views.plan 0) last output → HasBases t j base views → IsReady t j.out there → IsComing (views_making j) t (last, output) there
 coming t j base views last output there run is free = record {
   comes = record {
     base = base;
@@ -42,7 +43,7 @@ coming t j base views last output there run is free = record {
   free = free;
 }
 
-pub can_leave : (j : ViewsJob) (base views : BaseTree) (last : Nodes) (output : List ℕ) (there : Bool) (a b c : HostView) → ReadsOnly a b → ReadsOnly b c → IfSome a.told (λ t. HasBases t j base views) → IfSome b.told (λ t. IsReady t j.out there) → IsViewsRunFrom base (script_of views.plan 0) last output → IfSome c.told (λ t. IsComing (views_making j) t (last, output) there)
+pub can_leave : (j : ViewsJob) (base views : BaseTree) (last : Nodes) (output : List ℕ) (there : Out) (a b c : HostView) → ReadsOnly a b → ReadsOnly b c → IfSome a.told (λ t. HasBases t j base views) → IfSome b.told (λ t. IsReady t j.out there) → IsViewsRunFrom base (script_of views.plan 0) last output → IfSome c.told (λ t. IsComing (views_making j) t (last, output) there)
 can_leave j base views last output there a b c first then is free run =
     then_told (λ t. IsComing (views_making j) t (last, output) there) b c then
     (if_some_both (λ t. HasBases t j base views) (λ t. IsReady t j.out there) (λ t. IsComing (views_making j) t (last, output) there) b.told

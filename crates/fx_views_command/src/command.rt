@@ -8,6 +8,7 @@ ghost use Rattle.fx_views_command.specs.Rows.{views_making, ViewsRow, ViewsAsk};
 
 use crate::viewing::{Answer, run_bases};
 use fx_command::{Status, ready_out, save_and_print};
+use fx_folder::Out;
 use fx_inputs::read_bases;
 use fx_outside::{Gate, Host, Sink};
 use fx_words::ViewsJob;
@@ -19,7 +20,7 @@ use std::thread::Threads;
 fn leave<H: Host, S: Sink>(
     alloc: Global,
     job: &ViewsJob,
-    there: bool,
+    there: Out,
     answer: &Answer,
     host: &mut H,
     out: &mut S,

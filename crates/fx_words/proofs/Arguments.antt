@@ -5,10 +5,10 @@ use Rattle.std.specs.Option.{option_map, option_map_or, option_and_then, unwrap_
 use Rattle.std.proofs.lemmas.Bool.Decides.{nat_tests}
 use Rattle.std.proofs.lemmas.Bool.{and_parts}
 use Rattle.fx_words.specs.declared.form.CommandName.{CommandName}
-use Rattle.fx_words.specs.Forms.{has_form, is_within, least_of, most_of, takes, word_of}
-use Rattle.fx_words.proofs.Names.{named_so}
+use Rattle.fx_words.specs.Forms.{command_job, has_form, least_of, most_of, takes, word_of}
+use Rattle.fx_words.proofs.Names.{job_named, named_so}
 use Rattle.fx_words.specs.declared.job.Inputs as code_inputs
-use Rattle.fx_words.specs.Job.{Inputs, Mode, RunJob, AuditJob, JournalJob, RecoverJob, ViewsJob, Plain, Scheduled, are_plain, audit_job, command_job, is_count, is_count_with_views, is_plain, job_of, journal_job, named_job, recover_job, run_job, schedule_of, scheduled_job, show_job, views_job}
+use Rattle.fx_words.specs.Job.{Inputs, Mode, RunJob, AuditJob, JournalJob, RecoverJob, ViewsJob, Plain, Scheduled, are_plain, audit_job, is_plain, is_within, job_of, journal_job, named_job, recover_job, run_job, schedule_of, scheduled_job, show_job, views_job}
 use Rattle.fx_words.specs.JobOf.{BeginAt, asked_inputs, has_schedule, scripts_in, shells_read}
 use Rattle.fx_words.proofs.Lists.{drop_there}
 
@@ -31,13 +31,13 @@ five : (ws : List Text) (a b c d s : Text) → slice_get ws 1 ≡ Some a → sli
 five ws a b c d s e f g h k = four ws a b c d e f g h ∙ ap (λ r. a ∷ b ∷ c ∷ d ∷ r) (next ws 5 s k)
 
 -- the rest is of 1 to 64 scripts
-fits : (k : ℕ) (ws : List Text) → k < length ws → length ws ≤ k + 64 → is_count (length (drop k ws)) ≡ true
+fits : (k : ℕ) (ws : List Text) → k < length ws → length ws ≤ k + 64 → is_within 1 64 (length (drop k ws)) ≡ true
 fits k ws some few =
     let rest : length (drop k ws) ≡ length ws - k = length-drop k ws in
     grind (arith, nat_tests)
 
 -- or of 1 to 63 scripts
-fits_beside : (k : ℕ) (ws : List Text) → k < length ws → length ws < k + 64 → is_count_with_views (length (drop k ws)) ≡ true
+fits_beside : (k : ℕ) (ws : List Text) → k < length ws → length ws < k + 64 → is_within 1 63 (length (drop k ws)) ≡ true
 fits_beside k ws some few =
     let rest : length (drop k ws) ≡ length ws - k = length-drop k ws in
     grind (arith, nat_tests)
@@ -127,7 +127,7 @@ module _ (mode : List ℕ → Mode) where
   scheduled_not (w ∷ a ∷ b ∷ []) some none = absurd (omega (arith, some))
   scheduled_not (w ∷ a ∷ b ∷ c ∷ []) some none = absurd (omega (arith, some))
   scheduled_not (w ∷ a ∷ b ∷ c ∷ s ∷ scripts) some none =
-      sym (unread_by (λ shells. record { inputs = inputs a b scripts 5; out = c; mode = mode shells }) (is_count (length scripts)) (schedule_of (length scripts) s) none)
+      sym (unread_by (λ shells. record { inputs = inputs a b scripts 5; out = c; mode = mode shells }) (is_within 1 64 (length scripts)) (schedule_of (length scripts) s) none)
 
 pub journal_is : (ws : List Text) (i : code_inputs.Inputs) (out journal s : Text) → BeginAt ws 6 i → slice_get ws 3 ≡ Some out → slice_get ws 4 ≡ Some journal → slice_get ws 5 ≡ Some s → has_schedule ws 5 ≡ true → 6 < length ws → length ws ≤ 70
     → Some (record { run = record { inputs = asked_inputs i; out = out; mode = Scheduled (shells_read (length (scripts_in i)) s) }; journal = journal }) ≡ journal_job (drop 1 ws)
@@ -148,7 +148,7 @@ journal_not (w ∷ a ∷ b ∷ c ∷ []) some none = absurd (omega (arith, some)
 journal_not (w ∷ a ∷ b ∷ c ∷ d ∷ []) some none = absurd (omega (arith, some))
 journal_not (w ∷ a ∷ b ∷ c ∷ d ∷ s ∷ scripts) some none =
     let job : List ℕ → JournalJob = λ shells. record { run = record { inputs = inputs a b scripts 6; out = c; mode = Scheduled shells }; journal = d } in
-    sym (unread_by job (is_count (length scripts)) (schedule_of (length scripts) s) none)
+    sym (unread_by job (is_within 1 64 (length scripts)) (schedule_of (length scripts) s) none)
 
 -- ---- two texts
 
@@ -162,7 +162,7 @@ pair (w ∷ x ∷ y ∷ []) a b e f n =
     ap₂ (λ (v : Text) (u : Text). v ∷ u ∷ []) first second
 pair (w ∷ x ∷ y ∷ z ∷ rest) a b e f n = absurd (omega (arith, n))
 
-pub show_is : (ws : List Text) (spec folder : Text) → slice_get ws 1 ≡ Some spec → slice_get ws 2 ≡ Some folder → length ws ≡ 3 → show_job (drop 1 ws) ≡ Some (record { spec = spec; folder = folder })
+pub show_is : (ws : List Text) (spec folder : Text) → slice_get ws 1 ≡ Some spec → slice_get ws 2 ≡ Some folder → length ws ≡ 3 → show_job (drop 1 ws) ≡ Some (record { spec = spec; folder = folder; scripts = []; first = 3 })
 show_is ws spec folder e f n = ap show_job (pair ws spec folder e f n)
 
 -- ---- by the form that was read
@@ -185,5 +185,6 @@ job_is name args ws is plain =
     let rest = (and_parts (is_plain (word_of name)) (are_plain args) (ap are_plain is ∙ plain)).1 in
     sym (ap job_of is)
     ∙ ap (λ b. cond b (named_job (word_of name) args) None) rest
+    ∙ job_named (word_of name) args
     ∙ ap (λ o. option_and_then (λ c. command_job c args) o) (named_so name)
     ∙ ap (λ xs. command_job name (drop 1 xs)) is

@@ -4,13 +4,14 @@ use Rattle.std.specs.Option.{option_map, option_map_or, option_and_then}
 use Rattle.std.proofs.lemmas.Bool.Decides.{nat_tests}
 use Rattle.fx_words.specs.declared.form.CommandName.{CommandName}
 use Rattle.fx_words.specs.declared.form.CommandName.TheVariants as command
-use Rattle.fx_words.specs.Forms.{command_named, has_form, is_within, takes, word_of}
-use Rattle.fx_words.specs.Job.{Job, Mode, Run, Show, Gen, Large, Audit, Journal, Recover, Views, Scheduled, Watched, are_plain, audit_job, command_job, gen_job, is_count, is_count_with_views, is_plain, job_of, journal_job, recover_job, run_job, scheduled_job, show_job, views_job}
+use Rattle.fx_words.specs.Forms.{command_job, command_named, has_form, takes, word_of}
+use Rattle.fx_words.specs.Job.{Job, Mode, Run, Show, Gen, Large, Audit, Journal, Recover, Views, Scheduled, Watched, are_plain, audit_job, gen_job, is_plain, is_within, job_of, journal_job, recover_job, run_job, scheduled_job, show_job, views_job}
+use Rattle.fx_words.proofs.Names.{job_named}
 
 -- ---- words without a form ask for nothing
 
 -- so many scripts after some texts
-counted : (texts n all : ℕ) → all ≡ texts + n → is_within (texts + 1) (texts + 64) all ≡ is_count n
+counted : (texts n all : ℕ) → all ≡ texts + n → is_within (texts + 1) (texts + 64) all ≡ is_within 1 64 n
 counted texts n all e = grind (arith, nat_tests)
 
 run_none : (args : List (List ℕ)) → takes command.Run (length args) ≡ false → run_job args ≡ None
@@ -59,7 +60,7 @@ recover_none (a ∷ b ∷ []) e = refl
 recover_none (a ∷ b ∷ c ∷ []) e = refl
 recover_none (a ∷ b ∷ c ∷ d ∷ scripts) e = rw (sym (counted 4 (length scripts) (length (a ∷ b ∷ c ∷ d ∷ scripts)) (omega arith)) ∙ e) refl
 
-counted_beside : (n all : ℕ) → all ≡ 4 + n → is_within 5 67 all ≡ is_count_with_views n
+counted_beside : (n all : ℕ) → all ≡ 4 + n → is_within 5 67 all ≡ is_within 1 63 n
 counted_beside n all e = grind (arith, nat_tests)
 
 views_none : (args : List (List ℕ)) → takes command.Views (length args) ≡ false → views_job args ≡ None
@@ -91,7 +92,7 @@ either_none false = refl
 
 pub no_form : (words : List (List ℕ)) → has_form words ≡ false → job_of words ≡ None
 no_form [] e = refl
-no_form (w ∷ args) e = ap (λ j. cond (are_plain args) j None) (by_none (command_named w) args e) ∙ either_none (are_plain args)
+no_form (w ∷ args) e = ap (λ j. cond (are_plain args) j None) (job_named w args ∙ by_none (command_named w) args e) ∙ either_none (are_plain args)
 
 -- ---- nor do words of which one is empty or begins with `-`
 

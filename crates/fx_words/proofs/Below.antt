@@ -1,7 +1,6 @@
 -- The shells of a schedule are below the number of scripts.
-use Rattle.std.proofs.Common.{◌≡◌, ℕ, zero, suc, ◌+◌, ◌<◌, Bool, true, false, cond, List, [], ◌∷◌, length, Option, Some, None, refl, subst, arith, sym}
+use Rattle.std.proofs.Common.{◌≡◌, ℕ, ◌<◌, Bool, true, false, cond, List, [], ◌∷◌, length, Option, Some, None, refl, subst, sym}
 use Rattle.std.specs.Prelude.{All, is_some, codes}
-use Rattle.std.specs.Fmt.{decimal}
 use Rattle.std.specs.List.{slice_split}
 use Rattle.std.specs.Option.{option_map, option_and_then, unwrap_or}
 use Rattle.std.specs.Str.{bytes_eq}
@@ -9,33 +8,23 @@ use Rattle.std.proofs.lemmas.List.Elements.{All-cons, All-nil}
 use Rattle.fx_words.specs.declared.job.RunJob as code
 use Rattle.fx_words.specs.declared.job.RunMode as code_mode
 use Rattle.fx_words.specs.declared.job.RunMode.TheVariants as by
-use Rattle.fx_words.specs.Job.{numbered, shell_named, shells_named, schedule_of, is_comma, shells_of, scheduled_shells}
+use Rattle.fx_words.specs.Job.{decimal_number, shells_named, schedule_of, is_comma, shells_of, scheduled_shells}
 use Rattle.fx_words.specs.JobOf.{asked, IsJob, IsModeOf, scripts_in, mode_of}
-
-numbered_below : (k n : ℕ) (text : List ℕ) (j : ℕ) → numbered k n text ≡ Some j → j < k + n
-numbered_below k zero text j e = cc
-numbered_below k (suc n) text j e = at (bytes_eq (decimal k) text) (λ f. numbered_below (k + 1) n text j f) e
-  where
-    at : (b : Bool) → (numbered (k + 1) n text ≡ Some j → j < k + 1 + n) → cond b (Some k) (numbered (k + 1) n text) ≡ Some j → j < k + suc n
-    at true rest e = let same : k ≡ j = cc in omega arith
-    at false rest e = let lower : j < k + 1 + n = rest e in omega arith
-
-named_below : (count : ℕ) (text : List ℕ) (j : ℕ) → shell_named count text ≡ Some j → j < count
-named_below count text j e = let lower : j < 0 + count = numbered_below 0 count text j e in omega arith
+use Rattle.fx_words.proofs.Numbers.{number_says}
 
 abbrev Below : ℕ → List ℕ → Type 0
 Below count ks = All (λ k. k < count) ks
 
 shells_below : (count : ℕ) (texts : List (List ℕ)) (ks : List ℕ) → shells_named count texts ≡ Some ks → Below count ks
 shells_below count [] ks e = let none : [] ≡ ks = cc in subst (Below count) none (All-nil (λ k. k < count))
-shells_below count (text ∷ texts) ks e = at (shell_named count text) refl (shells_named count texts) (λ rest f. shells_below count texts rest f) e
+shells_below count (text ∷ texts) ks e = at (decimal_number count text) refl (shells_named count texts) (λ rest f. shells_below count texts rest f) e
   where
-    at : (o : Option ℕ) → shell_named count text ≡ o → (r : Option (List ℕ)) → ((rest : List ℕ) → r ≡ Some rest → Below count rest) → option_and_then (λ k. option_map (λ ks. k ∷ ks) r) o ≡ Some ks → Below count ks
+    at : (o : Option ℕ) → decimal_number count text ≡ o → (r : Option (List ℕ)) → ((rest : List ℕ) → r ≡ Some rest → Below count rest) → option_and_then (λ k. option_map (λ ks. k ∷ ks) r) o ≡ Some ks → Below count ks
     at None named r rest e = cc
     at (Some j) named None rest e = cc
     at (Some j) named (Some js) rest e =
         let same : j ∷ js ≡ ks = cc in
-        subst (Below count) same (All-cons (λ k. k < count) j js (named_below count text j named) (rest js refl))
+        subst (Below count) same (All-cons (λ k. k < count) j js ((number_says count text j named).1) (rest js refl))
 
 schedule_below : (count : ℕ) (text ks : List ℕ) → schedule_of count text ≡ Some ks → Below count ks
 schedule_below count text ks e = at (bytes_eq text (codes "none")) (shells_below count (slice_split is_comma text) ks) e

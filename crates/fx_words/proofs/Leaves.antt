@@ -12,7 +12,8 @@ use Rattle.clap.specs.declared.builder.value_parser.ValueParser.TheVariants as p
 use Rattle.clap.specs.declared.error.kind.ErrorKind.TheVariants as kind
 use Rattle.fx_words.specs.declared.form.CommandName.{CommandName}
 use Rattle.fx_words.specs.declared.form.CommandName.TheVariants.{Run, Trace, Show, Gen, Large, Audit, Watch, Journal, Recover, Views}
-use Rattle.fx_words.specs.Forms.{is_within, least_of, most_of, takes}
+use Rattle.fx_words.specs.Forms.{least_of, most_of, takes}
+use Rattle.fx_words.specs.Job.{is_within}
 use Rattle.fx_words.specs.Parser.{command, program}
 use Rattle.fx_words.proofs.Walks.{end_fault, leaf_fault, leaf_rows, start, step, steps_fault}
 

@@ -7,7 +7,6 @@ pub mod Walks
 pub mod Whole
 pub mod Arguments
 pub mod Decimals
-pub mod Numbered
 pub mod Numbers
 pub mod Lists
 pub mod Asked

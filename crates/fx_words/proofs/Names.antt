@@ -1,12 +1,14 @@
 -- The commands by their names.
-use Rattle.std.proofs.Common.{◌≡◌, Bool, true, false, ◌||◌, List, [], ◌∷◌, Some, None, refl, sym, ap, ◌∙◌}
+use Rattle.std.proofs.Common.{◌≡◌, Bool, true, false, cond, ◌||◌, List, [], ◌∷◌, Option, Some, None, refl, sym, ap, ◌∙◌}
 use Rattle.std.specs.Prelude.{find, map, if◌then◌else◌}
+use Rattle.std.specs.Option.{option_and_then}
 use Rattle.std.specs.Str.{bytes_eq}
 use Rattle.std.proofs.lemmas.Slice.Eq.{bytes_eq-Decides}
 use Rattle.clap.specs.Walk.{Names, Text, answers_to}
 use Rattle.fx_words.specs.declared.form.CommandName.{CommandName}
 use Rattle.fx_words.specs.declared.form.CommandName.TheVariants.{Run, Trace, Show, Gen, Large, Audit, Watch, Journal, Recover, Views}
-use Rattle.fx_words.specs.Forms.{command_named, commands, named_in, word_of}
+use Rattle.fx_words.specs.Forms.{command_job, command_named, commands, form_of, named_in, word_of}
+use Rattle.fx_words.specs.Job.{named_job}
 
 -- a word that names a command is its name
 named_is : (names : List CommandName) (word : Text) (name : CommandName) → named_in names word ≡ Some name → word_of name ≡ word
@@ -31,6 +33,20 @@ named_so Watch = refl
 named_so Journal = refl
 named_so Recover = refl
 named_so Views = refl
+
+-- what is found among images is the image of what is found
+find_map : {X Y Z : Type 0} (f : X → Y) (p : Y → Bool) (g : Y → Option Z) (xs : List X) → option_and_then g (find p (map f xs)) ≡ option_and_then (λ x. g (f x)) (find (λ x. p (f x)) xs)
+find_map f p g [] = refl
+find_map f p g (x ∷ xs) = at (p (f x)) (find_map f p g xs)
+  where
+    at : (b : Bool) → option_and_then g (find p (map f xs)) ≡ option_and_then (λ x. g (f x)) (find (λ x. p (f x)) xs)
+        → option_and_then g (cond b (Some (f x)) (find p (map f xs))) ≡ option_and_then (λ x. g (f x)) (cond b (Some x) (find (λ x. p (f x)) xs))
+    at true rest = refl
+    at false rest = rest
+
+-- a word asks for what the command asks for that it names
+pub job_named : (word : Text) (arguments : List Text) → named_job word arguments ≡ option_and_then (λ name. command_job name arguments) (command_named word)
+job_named word arguments = find_map form_of (λ form. bytes_eq form.0 word) (λ form. form.1 arguments) commands
 
 abbrev pub labels : List CommandName → Names
 labels names = map (λ name. (word_of name, [])) names

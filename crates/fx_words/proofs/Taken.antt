@@ -9,7 +9,8 @@ use Rattle.clap.specs.declared.error.Error.{Error}
 use Rattle.clap.specs.declared.error.kind.ErrorKind.{ErrorKind}
 use Rattle.clap.specs.declared.error.kind.ErrorKind.TheVariants.{OutOfMemory}
 use Rattle.clap.specs.declared.parser.matches.ArgMatches.{ArgMatches}
-use Rattle.fx_words.specs.Forms.{has_form, is_plain}
+use Rattle.fx_words.specs.Forms.{has_form}
+use Rattle.fx_words.specs.Job.{is_plain}
 use Rattle.fx_words.specs.Matched.{words_in}
 use Rattle.fx_words.specs.Parser.{program}
 use Rattle.fx_words.specs.declared.fault.WordsFault.{WordsFault}

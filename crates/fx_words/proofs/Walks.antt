@@ -9,7 +9,7 @@ use Rattle.clap.specs.Kinds.{Kinds, or_else}
 use Rattle.clap.specs.Walk.{Held, Names, Row, Rule, Step, Text, Waiting, Walk, idle, option, positional, value, after_step, arg_by_index, finished, is_multiple, long_or_other, plain_word, short_or_plain, subcommand_or_other, trailing, nothing_held, rows_after, settled, subcommand_met, to_positional, walk_from, walked, walked_from, word_met}
 use Rattle.clap.specs.Simple.{Shape}
 use Rattle.clap.specs.Faults.{check_fault, defaults_fault, bundle_fault, flag_word_fault, level_fault, other_fault, settle_fault, step_fault, turn_fault, walk_fault, word_fault}
-use Rattle.fx_words.specs.Forms.{is_plain}
+use Rattle.fx_words.specs.Job.{is_plain}
 
 -- nothing waits for the value of an option
 abbrev pub is_free : Waiting → Bool

@@ -12,7 +12,8 @@ use Rattle.clap.proofs.WalkLemmas.{walk_stopped}
 use Rattle.clap.proofs.FaultLemmas.{stopped_fault}
 use Rattle.fx_words.specs.declared.form.CommandName.{CommandName}
 use Rattle.fx_words.specs.declared.form.CommandName.TheVariants.{Run, Trace, Show, Gen, Large, Audit, Watch, Journal, Recover, Views}
-use Rattle.fx_words.specs.Forms.{command_named, commands, has_form, is_plain, takes, word_of}
+use Rattle.fx_words.specs.Forms.{command_named, commands, has_form, takes, word_of}
+use Rattle.fx_words.specs.Job.{is_plain}
 use Rattle.fx_words.specs.Matched.{command_in, words_in}
 use Rattle.fx_words.specs.Parser.{program}
 use Rattle.fx_words.proofs.Walks.{level_is, rows_are, start, turn_is}

@@ -1,28 +1,36 @@
 -- The forms of the commands: a name, and as many arguments as the command takes.
-use Rattle.std.specs.Prelude.{ℕ, ◌+◌, ◌-◌, Bool, false, not, ◌&&◌, ◌==◌, List, [], ◌∷◌, length, Option, codes, find, nat_le}
+use Rattle.std.specs.Prelude.{ℕ, ◌+◌, Bool, false, List, [], ◌∷◌, length, Option, None, find, get_or}
 use Rattle.std.specs.Option.{option_map_or}
 use Rattle.std.specs.Str.{bytes_eq}
 use Rattle.fx_base.specs.Limits.{shell_limit}
 use Rattle.fx_words.specs.declared.form.CommandName.{CommandName}
 use Rattle.fx_words.specs.declared.form.CommandName.TheVariants.{Run, Trace, Show, Gen, Large, Audit, Watch, Journal, Recover, Views}
+use Rattle.fx_words.specs.Job.{Job, forms, is_within}
 
--- a word may be an argument: it is not empty and does not begin with `-`
-abbrev pub is_plain : List ℕ → Bool
-is_plain [] = false
-is_plain (b ∷ rest) = not (b == 45)
+-- the form at a place among them all
+abbrev pub form_at : ℕ → List ℕ × (List (List ℕ) → Option Job)
+form_at i = get_or forms i ([], λ arguments. None)
+
+-- the form of a command
+abbrev pub form_of : CommandName → List ℕ × (List (List ℕ) → Option Job)
+form_of Run = form_at 0
+form_of Trace = form_at 1
+form_of Show = form_at 2
+form_of Gen = form_at 3
+form_of Large = form_at 4
+form_of Audit = form_at 5
+form_of Watch = form_at 6
+form_of Journal = form_at 7
+form_of Recover = form_at 8
+form_of Views = form_at 9
 
 -- the word that names a command
 abbrev pub word_of : CommandName → List ℕ
-word_of Run = codes "run"
-word_of Trace = codes "trace"
-word_of Show = codes "show"
-word_of Gen = codes "gen"
-word_of Large = codes "large"
-word_of Audit = codes "audit"
-word_of Watch = codes "watch"
-word_of Journal = codes "journal"
-word_of Recover = codes "recover"
-word_of Views = codes "views"
+word_of name = (form_of name).0
+
+-- what a command asks for with these arguments
+abbrev pub command_job : CommandName → List (List ℕ) → Option Job
+command_job name arguments = (form_of name).1 arguments
 
 abbrev pub commands : List CommandName
 commands = Run ∷ Trace ∷ Show ∷ Gen ∷ Large ∷ Audit ∷ Watch ∷ Journal ∷ Recover ∷ Views ∷ []
@@ -33,17 +41,6 @@ named_in names word = find (λ name. bytes_eq (word_of name) word) names
 
 abbrev pub command_named : List ℕ → Option CommandName
 command_named word = named_in commands word
-
-abbrev pub is_within : ℕ → ℕ → ℕ → Bool
-is_within least most n = nat_le least n && nat_le n most
-
--- 1 to 64 scripts
-abbrev pub is_count : ℕ → Bool
-is_count n = is_within 1 shell_limit n
-
--- 1 to 63 scripts, which leave a place for the views
-abbrev pub is_count_with_views : ℕ → Bool
-is_count_with_views n = is_within 1 (shell_limit - 1) n
 
 -- the fewest arguments of a command: SPEC, FOLDER and so on, and a script; or two texts
 abbrev pub least_of : CommandName → ℕ

@@ -14,7 +14,7 @@ use Rattle.fx_words.specs.declared.job.RecoverJob as code_recover
 use Rattle.fx_words.specs.declared.job.ViewsJob as code_views
 use Rattle.fx_words.specs.declared.job.ShowJob as code_show
 use Rattle.fx_words.specs.declared.job.GenJob as code_gen
-use Rattle.fx_words.specs.Job.{Job, Run, Show, Gen, Large, Audit, Journal, Recover, Views, Inputs, RunJob, ShowJob, GenJob, AuditJob, JournalJob, RecoverJob, ViewsJob, Mode, Plain, Scheduled, Watched, schedule_of, shells_of}
+use Rattle.fx_words.specs.Job.{Job, Run, Show, Gen, Large, Audit, Journal, Recover, Views, Inputs, RunJob, GenJob, AuditJob, JournalJob, RecoverJob, ViewsJob, Mode, Plain, Scheduled, Watched, schedule_of, shells_of}
 
 abbrev pub scripts_in : code_inputs.Inputs → List (List ℕ)
 scripts_in i = drop i.first i.words.now
@@ -62,8 +62,8 @@ pub record IsJob (j : code.RunJob) : Type 0 where
   pub inputs : AreInputs j.inputs
   pub mode : IsModeOf (length (scripts_in j.inputs)) j.mode
 
-abbrev pub asked_show : code_show.ShowJob → ShowJob
-asked_show j = record { spec = j.spec.now; folder = j.folder.now }
+abbrev pub asked_show : code_show.ShowJob → Inputs
+asked_show j = record { spec = j.spec.now; folder = j.folder.now; scripts = []; first = 3 }
 
 abbrev pub asked_gen : code_gen.GenJob → GenJob
 asked_gen j = record { number = j.number; out = j.out.now }

@@ -1,5 +1,5 @@
 //! The decimal texts of numbers.
-ghost use Rattle.std.specs.Prelude.{◌≡◌, ◌<◌, ◌≤◌, bytes_eq};
+ghost use Rattle.std.specs.Prelude.{◌≡◌, ◌<◌, ◌≤◌, ◌^◌, bytes_eq};
 ghost use Rattle.std.specs.Fmt.{decimal};
 ghost use Rattle.fx_base.specs.Limits.{shell_limit};
 ghost use Rattle.fx_words.specs.Job as job;
@@ -19,10 +19,10 @@ fn is_decimal(number: u32, text: &[u8]) -> bool
     [tens, ones].as_slice() == text
 }
 
-/// The shell that a text names, of so many shells.
+/// The number below a count whose decimal text this is: the shell that the text names, of so many shells.
 pub(crate) fn shell_named(count: u32, text: &[u8]) -> Option<u32>
     requires { count ≤ shell_limit }
-    ensures { result ≡ job.shell_named count text.now }
+    ensures { result ≡ job.decimal_number count text.now }
 {
     for k in 0..count {
         if is_decimal(k, text) {
@@ -34,7 +34,7 @@ pub(crate) fn shell_named(count: u32, text: &[u8]) -> Option<u32>
 
 /// The number whose decimal text this is, if a `u32` holds it.
 pub(crate) fn number_of(text: &str) -> Option<u32>
-    ensures { result ≡ job.decimal_number text.now }
+    ensures { result ≡ job.decimal_number (2 ^ 32) text.now }
 {
     let number: u32 = text.parse().ok()?;
     let mut buffer = Buffer::new();

@@ -1,6 +1,6 @@
 ghost use Rattle.std.specs.Prelude.{◌≡◌, ◌+◌, ◌≤◌, ◌<◌, IfOk, IfSome, Some, None, Err, slice_get, option_copied, option_map, is_some, length, drop};
 ghost use Rattle.fx_base.specs.Limits.{shell_limit};
-ghost use Rattle.fx_words.specs.Forms.{least_of, most_of};
+ghost use Rattle.fx_words.specs.Forms.{command_job, least_of, most_of};
 ghost use Rattle.fx_words.specs.WordsOf.{texts_of};
 ghost use Rattle.fx_words.specs.Job as job;
 ghost use Rattle.fx_words.specs.JobOf.{asked, asked_audit, asked_gen, asked_inputs, asked_job, asked_journal, asked_recover, asked_show, asked_views, has_schedule, AreInputs, BeginAt, IsAnyJob, IsJob, IsJournalJob, IsViewsJob};
@@ -299,7 +299,7 @@ fn gen_job(words: &Words) -> Option<GenJob<'_>>
 fn job_in(words: &Words, command: CommandName) -> Option<Job<'_>>
     requires some { least_of command < length words.now }
     requires few { length words.now ≤ most_of command + 1 }
-    ensures asked { option_map asked_job result ≡ job.command_job command (drop 1 words.now) }
+    ensures asked { option_map asked_job result ≡ command_job command (drop 1 words.now) }
     ensures job { IfSome result IsAnyJob }
 {
     match command {

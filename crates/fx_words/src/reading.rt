@@ -4,7 +4,8 @@ ghost use Rattle.std.specs.List.{list_all};
 ghost use Rattle.std.specs.Option.{option_map};
 ghost use Rattle.clap.specs.Words.{found_of, rows_of, subcommand_rows_of};
 ghost use Rattle.fx_words.specs.Forms as forms;
-ghost use Rattle.fx_words.specs.Forms.{has_form, is_plain};
+ghost use Rattle.fx_words.specs.Forms.{has_form};
+ghost use Rattle.fx_words.specs.Job.{is_plain};
 ghost use Rattle.fx_words.specs.Matched.{command_in, words_in};
 ghost use Rattle.fx_words.specs.WordsOf.{texts_of, words_of};
 

@@ -17,7 +17,7 @@ fn is_comma(byte: &u8) -> bool
 
 fn names_shell(count: u32, text: &[u8]) -> bool
     requires { count ≤ shell_limit }
-    ensures { result ≡ is_some (job.shell_named count text.now) }
+    ensures { result ≡ is_some (job.decimal_number count text.now) }
 {
     shell_named(count, text).is_some()
 }
@@ -25,7 +25,7 @@ fn names_shell(count: u32, text: &[u8]) -> bool
 /// Whether each part between commas names a shell.
 fn are_shells(count: u32, text: &[u8]) -> bool
     requires { count ≤ shell_limit }
-    ensures { result ≡ list_all (λ part. is_some (job.shell_named count part))
+    ensures { result ≡ list_all (λ part. is_some (job.decimal_number count part))
         (slice_split is_comma text.now) }
 {
     text.split(|b| is_comma(b))
@@ -46,7 +46,7 @@ pub(crate) fn is_schedule(count: u32, text: &[u8]) -> bool
 /// The shells that the parts between commas name.
 fn shells_of(alloc: Global, count: u32, text: &[u8]) -> Result<Vec<u32>, NoMemory>
     requires count { count ≤ shell_limit }
-    requires shells { list_all (λ part. is_some (job.shell_named count part))
+    requires shells { list_all (λ part. is_some (job.decimal_number count part))
         (slice_split is_comma text.now) ≡ true }
     ensures { IfOk result
         (λ shells. job.shells_named count (slice_split is_comma text.now) ≡ Some shells.items) }

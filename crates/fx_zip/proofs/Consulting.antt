@@ -1,6 +1,6 @@
 -- Steps that consult the filestore: inside an entry, and to a second part.
 use Rattle.fx_zip.proofs.Prelude.{◌≡◌, ℕ, Bool, true, false, cond, List, ◌∷◌, length, Option, Some, None, option_map, Result, Ok, Err, refl, sym, ap, ◌∙◌, subst, IsErrAnd, IfOk, IfSome, Ask, Answer, ◌>>=◌, bind, has_text, Tree, Refusal}
-use Rattle.fx_zip.proofs.Prelude.{Bindings, exists, value, Answered, go_into, this_if, Second, Inside, Address, PlaceTree, placed, where_true, SpecTree, Stop, Meaning, err_of, Halt, Entry, Spot, IsNoPair, IsNoOption, grown, spot_place}
+use Rattle.fx_zip.proofs.Prelude.{Bindings, exists, value, Answered, go_into, Second, Inside, Address, PlaceTree, placed, where_true, SpecTree, Stop, Meaning, err_of, Halt, Entry, Spot, IsNoPair, IsNoOption, grown, spot_place}
 use Rattle.fx_zip.proofs.Prelude.{LeadsTo, Enters, BindsValue, bound_value, step_tree, Implements, then_answers, then_refused, stops, answers, Session, own_at}
 use Rattle.fx_view.specs.declared.reader.Stop.TheVariants as stop
 use Rattle.fx_session.specs.declared.halt.Halt.TheVariants as halt
@@ -12,10 +12,10 @@ use Rattle.fx_zip.proofs.Sessions.{found_by}
 
 -- ---- elements that are chosen are elements
 
-pub has_asked : (text : List ℕ) (set : List (List ℕ)) (t : List ℕ) → this_if text (has_text text set) ≡ Some t → has_text t set ≡ true
+pub has_asked : (text : List ℕ) (set : List (List ℕ)) (t : List ℕ) → where_true (has_text text set) text ≡ Some t → has_text t set ≡ true
 has_asked text set t e = at (has_text text set) refl e
   where
-    at : (b : Bool) → has_text text set ≡ b → this_if text b ≡ Some t → has_text t set ≡ true
+    at : (b : Bool) → has_text text set ≡ b → where_true b text ≡ Some t → has_text t set ≡ true
     at false is e = absurd (cc)
     at true is e = let same : text ≡ t = cc in ap (λ u. has_text u set) (sym same) ∙ is
 

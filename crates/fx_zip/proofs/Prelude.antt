@@ -26,7 +26,7 @@ pub use Rattle.fx_session.specs.declared.session.Session.{Session}
 pub use Rattle.fx_spec.specs.Describe.{Bindings, argument_evals, arguments, behind, content, exists, flag_value, focus_path, then_others, unless_fault, with_some, with_values}
 unfoldable pub use Rattle.fx_spec.specs.Describe.{value}
 pub use Rattle.fx_spec.specs.Move.{Answered, another, asks_flag, at_place, chosen, element, evaluated, fetch_at, fetch_shape, fetched, flag_at, go_down, go_into, go_next, go_out, go_prev, go_to, go_up, has_fetch_shape, needed, of_shape}
-pub use Rattle.fx_spec.specs.Move.{same_shape, this_if, unrefused, value_shape, whole_at, with_arguments}
+pub use Rattle.fx_spec.specs.Move.{same_shape, unrefused, value_shape, whole_at, with_arguments}
 pub use Rattle.fx_spec.specs.Parts.{part_of}
 pub use Rattle.fx_spec.specs.Place.{Address, Body, Down, Elem, First, Inside, PlaceTree, Second, Step, at_path, has_element, in_body, lead, placed, where_true}
 unfoldable pub use Rattle.fx_spec.specs.Place.{place}

@@ -221,7 +221,7 @@ fn element(
 }
 
 fn this_if(text: &Text, holds: bool) -> Option<&Text>
-    ensures { option_copied result ≡ move.this_if text.now holds }
+    ensures { option_copied result ≡ place.where_true holds text.now }
 {
     if holds { Some(text) } else { None }
 }

@@ -9,15 +9,14 @@ use Rattle.fx_command.specs.declared.status.Status.{Status}
 use Rattle.fx_command.specs.declared.status.Status.TheVariants as status
 use Rattle.fx_command.proofs.Readings.{CannotBeRefused}
 use Rattle.fx_command.proofs.Tables.{completes}
-use Rattle.fx_inputs.specs.Readings.{inputs_reading}
-use Rattle.fx_inputs.proofs.ReadRows.{read_fault_rose}
+use Rattle.fx_inputs.specs.Reads.{IsProperRun}
 use Rattle.fx_inputs.proofs.Readings.{inputs_all_read}
 use Rattle.fx_words.specs.Job.{RecoverJob}
-use Rattle.fx_durable.specs.Disk.{DiskView, TellsOther}
+use Rattle.fx_durable.specs.Disk.{DiskView, TellsOther, FailsAt}
 use Rattle.fx_journaling.specs.Laws.{GoesWrong}
 use Rattle.fx_journaling.proofs.Legal.{legal_images_are_good}
 use Rattle.fx_commands.specs.Recoveries.Recovered.{IsBad}
-use Rattle.fx_commands.specs.Recoveries.Rows.{recover_reading, recover_command, RecoverRow, HasJournal, IsProperRecover}
+use Rattle.fx_commands.specs.Recoveries.Rows.{journal_reading, recover_command, RecoverRow, HasJournal}
 
 -- ---- a journal that spells a legal order
 
@@ -32,20 +31,25 @@ not_other t j disk has other = subst (λ o. IsSomeAnd o (λ file. file.path ≡ 
 
 -- ---- all together
 
-pub recover_completes : (j : RecoverJob) (t : Tree) (host host' : HostView) (sink sink' : SinkView) (disk disk' : DiskView) → host.told ≡ Some t → IsProperRecover t j disk → (Rose host.faults host'.faults → ⊥) → (Rose sink.faults sink'.faults → ⊥) → (Rose disk.faults disk'.faults → ⊥) → (st : Status) → RecoverRow j host host' sink sink' disk disk' st → (st ≡ status.Done) ⊎ (st ≡ status.NoMemory)
-recover_completes j t host host' sink sink' disk disk' is proper none quiet sound st row =
-    completes (recover_command j disk disk') t host host' sink sink' st is (record {
-      refused = inputs.refused;
-      unloaded = inputs.unloaded;
-      failed = failed;
-      bad = λ place bad. not_bad t j disk proper.journal place (subst (λ o. IfSome o (λ t. IsBad t j disk place)) is bad);
-    }) proper.out none quiet row.3
-  where
-    inputs : CannotBeRefused (inputs_reading j.inputs) host host'
-    inputs = inputs_all_read j.inputs t host host' is proper.inputs none
+module _ (j : RecoverJob) (t : Tree) (host host' : HostView) (disk disk' : DiskView) (is : host.told ≡ Some t) (proper : IsProperRun t j.inputs j.out) (journal : HasJournal t j disk) (none : Rose host.faults host'.faults → ⊥) (sound : Rose disk.faults disk'.faults → ⊥) where
+  journal_read : (st : Status) → journal_reading j disk disk' host st → ⊥
+  journal_read status.Done why = why
+  journal_read status.Usage why = why
+  journal_read (status.TextRefused word cause) why = why
+  journal_read (status.FolderRefused cause) why = why
+  journal_read status.ReadFault why = no_fault why.0
+    where
+      no_fault : FailsAt j.journal disk disk' → ⊥
+      no_fault (inl rose) = sound rose
+      no_fault (inr (other, _)) = not_other t j disk journal other
+  journal_read status.NotEmpty why = why
+  journal_read status.WriteFault why = why
+  journal_read status.NoMemory why = why
+  journal_read (status.BadJournal place) why = not_bad t j disk journal place (subst (λ o. IfSome o (λ t. IsBad t j disk place)) is why)
 
-    failed : (recover_reading j disk disk').failed host host' → ⊥
-    failed (inl (inl fault)) = none (read_fault_rose j.inputs host host' fault)
-    failed (inl (inr (inl rose, _))) = sound rose
-    failed (inl (inr (inr (other, _), _))) = not_other t j disk proper.journal other
-    failed (inr cannot) = inputs.failed (inr cannot)
+  all_read : CannotBeRefused (recover_command j disk disk').reads host host'
+  all_read st (inl why) = inputs_all_read j.inputs t host host' is proper.inputs none st why
+  all_read st (inr why) = journal_read st why
+
+  pub recover_completes : (sink sink' : SinkView) (st : Status) → (Rose sink.faults sink'.faults → ⊥) → RecoverRow j host host' sink sink' disk disk' st → (st ≡ status.Done) ⊎ (st ≡ status.NoMemory)
+  recover_completes sink sink' st quiet row = completes (recover_command j disk disk') t host host' sink sink' st is all_read proper.out none quiet row.3

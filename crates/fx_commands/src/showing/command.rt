@@ -1,10 +1,12 @@
 //! The command `show`.
-ghost use Rattle.std.specs.Prelude.{◌≡◌, IfOk, IfErr, IfSome};
+ghost use Rattle.std.specs.Prelude.{IfOk, IfErr, IfSome};
 ghost use Rattle.fx_outside.specs.Host.{ReadsOnly};
 ghost use Rattle.fx_folder.specs.Loads.{Loads};
 ghost use Rattle.fx_words.specs.JobOf.{asked_show};
-ghost use Rattle.fx_commands.specs.Shows.Rows.{ShowRow, ShowEndsAs, ShowAsks};
-ghost use Rattle.fx_commands.specs.Shows.Showing.{HasDescription, HasSomeDescription, IsShowing};
+ghost use Rattle.fx_inputs.specs.Inputs.{HasSpec, HasTexts};
+ghost use Rattle.fx_inputs.specs.Reads.{InputsAsk};
+ghost use Rattle.fx_commands.specs.Shows.Rows.{ShowRow, ShowEndsAs};
+ghost use Rattle.fx_commands.specs.Shows.Showing.{IsShowing};
 ghost use Rattle.fx_command.specs.StatusOf.{status_of};
 
 use crate::showing::values::shown;
@@ -18,11 +20,11 @@ use std::alloc::Global;
 
 /// Loads the folder, after the description.
 fn read_folder<H: Host>(alloc: Global, job: &ShowJob, host: &mut H) -> Result<Filestore, Status>
-    requires { IfSome (H.view host.old).told (λ t. HasSomeDescription t (asked_show job.now)) }
+    requires { IfSome (H.view host.old).told (λ t. HasTexts t (asked_show job.now)) }
     ensures loaded { IfOk result (λ s.
         IfSome (H.view host.old).told (λ t. Loads t (asked_show job.now).folder s.nodes)) }
     ensures same { ReadsOnly (H.view host.old) (H.view host.new) }
-    ensures fit { ShowAsks (asked_show job.now) (H.view host.old) (H.view host.new) }
+    ensures fit { InputsAsk (asked_show job.now) (H.view host.old) (H.view host.new) }
     ensures ends { IfErr result
         (ShowEndsAs (asked_show job.now) (H.view host.old) (H.view host.new)) }
 {
@@ -38,11 +40,11 @@ fn output_by<H: Host>(
     host: &mut H,
 ) -> Result<LongText, Status>
     requires { IfSome (H.view host.old).told
-        (λ t. HasDescription t (asked_show job.now) spec.now) }
+        (λ t. HasSpec t (asked_show job.now) spec.now) }
     ensures shows { IfOk result (λ output.
         IfSome (H.view host.old).told (λ t. IsShowing t (asked_show job.now) output)) }
     ensures same { ReadsOnly (H.view host.old) (H.view host.new) }
-    ensures fit { ShowAsks (asked_show job.now) (H.view host.old) (H.view host.new) }
+    ensures fit { InputsAsk (asked_show job.now) (H.view host.old) (H.view host.new) }
     ensures ends { IfErr result
         (ShowEndsAs (asked_show job.now) (H.view host.old) (H.view host.new)) }
 {
@@ -57,7 +59,7 @@ fn output_of<H: Host>(alloc: Global, job: &ShowJob, host: &mut H) -> Result<Long
     ensures shows { IfOk result (λ output.
         IfSome (H.view host.old).told (λ t. IsShowing t (asked_show job.now) output)) }
     ensures same { ReadsOnly (H.view host.old) (H.view host.new) }
-    ensures fit { ShowAsks (asked_show job.now) (H.view host.old) (H.view host.new) }
+    ensures fit { InputsAsk (asked_show job.now) (H.view host.old) (H.view host.new) }
     ensures ends { IfErr result
         (ShowEndsAs (asked_show job.now) (H.view host.old) (H.view host.new)) }
 {
@@ -76,7 +78,7 @@ pub fn show<H: Host, S: Sink>(
 ) -> Result<(), Status>
     ensures row { ShowRow (asked_show job.now) (H.view host.old) (H.view host.new)
         (S.view out.old) (S.view out.new) (status_of result) }
-    ensures fit { ShowAsks (asked_show job.now) (H.view host.old) (H.view host.new) }
+    ensures fit { InputsAsk (asked_show job.now) (H.view host.old) (H.view host.new) }
 {
     let output = output_of(alloc, job, host)?;
     print_all(out, output.as_slice())?;

@@ -1,14 +1,15 @@
 -- The rows of the table of statuses, from what the stages ensure.
-use Rattle.std.proofs.Common.{◌≡◌, ◌⊎◌, inl, inr, ℕ, Bool, false, List, ◌++◌, length, take, Option, Some, None, refl, sym, ◌∙◌, subst, arith}
+use Rattle.std.proofs.Common.{◌≡◌, ◌⊎◌, inl, inr, ℕ, List, ◌++◌, length, take, Option, Some, None, refl, sym, ◌∙◌, subst, arith}
 use Rattle.std.specs.Prelude.{IfSome}
 use Rattle.fx_base.specs.Causes.{Rose}
 use Rattle.std.specs.FinMap.{get}
 use Rattle.fx_store.specs.Whole.{Nodes, IsWhole}
-use Rattle.fx_outside.specs.Host.{HostView, ReadsOnly, FaultIn, HasFailed}
+use Rattle.fx_outside.specs.Host.{HostView, ReadsOnly, FaultIn}
 use Rattle.fx_outside.specs.Path.{parts, is_fit}
 use Rattle.fx_outside.specs.Sink.{SinkView}
 use Rattle.fx_outside.specs.Tree.{Tree}
 use Rattle.fx_outside.proofs.Views.{reads_none, fault_in_back, failed_in_back}
+use Rattle.fx_folder.specs.declared.readying.Out.{Out}
 use Rattle.fx_folder.specs.Folder.{IfTold, IsReady, IsTaken, IsSaved, IsPartlySaved, Saves, SavesPart, SaveCause, LacksFolder}
 use Rattle.fx_folder.specs.declared.fault.SaveFault.TheVariants as save
 use Rattle.fx_spec.specs.Order.{BaseTree, state}
@@ -20,12 +21,12 @@ use Rattle.fx_report.specs.Entries.{report}
 use Rattle.fx_report.specs.Events.{lines}
 use Rattle.fx_command.specs.declared.status.Status.{Status}
 use Rattle.fx_command.specs.declared.status.Status.TheVariants as status
-use Rattle.fx_command.specs.Saved.{SaveEnd, done, unmade, unsaved, unprinted}
-use Rattle.fx_command.specs.Table.{IsDone, CannotSave}
+use Rattle.fx_command.specs.Saved.{Prints, SaveEnd, done, unmade, unsaved, unprinted}
+use Rattle.fx_command.specs.Table.{IsMade, CannotSave}
 use Rattle.fx_command.proofs.Told.{if_some_map, if_some_both, some_and, if_told_same, if_told_map, same, grows_all, cause_back, told_back, some_back, same_back}
 use Rattle.fx_inputs.specs.Inputs.{HasInputs, HasBase}
 use Rattle.fx_inputs.specs.Reads.{ReadRow}
-use Rattle.fx_inputs.proofs.Readings.{inputs_steady}
+use Rattle.fx_inputs.proofs.ReadRows.{inputs_steady}
 use Rattle.fx_inputs.proofs.Stages.{has_inputs, has_inputs_told}
 use Rattle.fx_command.specs.Out.{IsUnready}
 use Rattle.fx_words.specs.Job.{RunJob, JournalJob, Scheduled, shells_of}
@@ -39,7 +40,7 @@ use Rattle.fx_journaling.specs.Taken.{HasGrown}
 use Rattle.fx_journaling.proofs.Fronts.{written_is_front}
 use Rattle.fx_journaling.proofs.Taking.{grown_as, grown_more}
 use Rattle.fx_journaling.proofs.Ending.{not_disk}
-use Rattle.fx_run_commands.specs.Journals.Rows.{HasWrittenAll, IsStoppedRun, IsStoppedAtDisk, IsLeft, IsLeftOrWhole, CannotLeave, CannotReach, CannotStart, HasEmptyJournal, IsUnbegun, HasBroken, IsBrokenOff, JournalEnd}
+use Rattle.fx_run_commands.specs.Journals.Rows.{HasWrittenAll, IsStoppedRun, IsStoppedAtDisk, IsLeft, IsLeftOrWhole, CannotLeave, CannotReach, CannotStart, HasEmptyJournal, IsUnbegun, HasBroken, JournalEnd}
 use Rattle.fx_run_commands.specs.Journals.Stages.{StartCause, holds, fails, status_in, RecordCause}
 use Rattle.fx_run_commands.proofs.Journals.Keeping.{nothing_more, front_of, bytes_of, report_of, grown_by}
 
@@ -55,9 +56,9 @@ part_at_most j sink sink' (Some t) (Some t') left = inl left
 pub inputs_unread : (j : JournalJob) (host host' : HostView) (sink : SinkView) (disk : DiskView) (st : Status) → ReadsOnly host host' → ReadRow j.run.inputs host host' st → JournalEnd j host host' sink sink disk disk st
 inputs_unread j host host' sink disk status.Done reads row = absurd row
 inputs_unread j host host' sink disk status.Usage reads row = absurd row
-inputs_unread j host host' sink disk (status.TextRefused word cause) reads row = (same host host' sink reads, refl, row)
-inputs_unread j host host' sink disk (status.FolderRefused cause) reads row = (same host host' sink reads, refl, row)
-inputs_unread j host host' sink disk status.ReadFault reads row = (same host host' sink reads, refl, row)
+inputs_unread j host host' sink disk (status.TextRefused word cause) reads row = (refl, (same host host' sink reads, row))
+inputs_unread j host host' sink disk (status.FolderRefused cause) reads row = (refl, (same host host' sink reads, row))
+inputs_unread j host host' sink disk status.ReadFault reads row = (refl, (same host host' sink reads, row))
 inputs_unread j host host' sink disk status.NotEmpty reads row = absurd row
 inputs_unread j host host' sink disk status.WriteFault reads row = absurd row
 inputs_unread j host host' sink disk status.NoMemory reads row = inl (same host host' sink reads, refl)
@@ -83,7 +84,7 @@ out_unready j host host' sink disk (status.BadJournal place) reads inputs cause 
 
 -- ---- a journal that is not started
 
-pub not_started : (j : JournalJob) (base : BaseTree) (there : Bool) (host : HostView) (sink : SinkView) (disk disk' : DiskView) (st : Status) → IfSome host.told (λ t. HasBase t j.run.inputs base) → IfSome host.told (λ t. IsReady t j.run.out there) → StartCause j.journal disk disk' st → JournalEnd j host host sink sink disk disk' st
+pub not_started : (j : JournalJob) (base : BaseTree) (there : Out) (host : HostView) (sink : SinkView) (disk disk' : DiskView) (st : Status) → IfSome host.told (λ t. HasBase t j.run.inputs base) → IfSome host.told (λ t. IsReady t j.run.out there) → StartCause j.journal disk disk' st → JournalEnd j host host sink sink disk disk' st
 not_started j base there host sink disk disk' st begins free (holds told calm bytes) = (
   same host host sink (reads_none host),
   told,
@@ -92,7 +93,7 @@ not_started j base there host sink disk disk' st begins free (holds told calm by
 )
 not_started j base there host sink disk disk' st begins free (fails cause) = inl (record {
   inputs = has_inputs_told j.run.inputs base host.told begins;
-  cause = inr (cause, if_some_map (λ t. IsReady t j.run.out there) (λ t. (there : Bool) × IsReady t j.run.out there) host.told (λ t free. (there, free)) free);
+  cause = inr (cause, if_some_map (λ t. IsReady t j.run.out there) (λ t. (there : Out) × IsReady t j.run.out there) host.told (λ t free. (there, free)) free);
   same = same host host sink (reads_none host);
 })
 
@@ -101,7 +102,7 @@ not_started j base there host sink disk disk' st begins free (fails cause) = inl
 sink_there : fault.SinkFailed ≡ fault.DiskFailed → ⊥
 sink_there is = cc
 
-module _ (j : JournalJob) (base : BaseTree) (whole : IsWhole (get base.loaded)) (there : Bool) (host : HostView) (sink sink' : SinkView) (disk mid disk' : DiskView) (begins : IfSome host.told (λ t. HasBase t j.run.inputs base)) (free : IfSome host.told (λ t. IsReady t j.run.out there)) (empty : HasEmptyJournal j disk) (calm : mid.faults ≡ disk.faults) where
+module _ (j : JournalJob) (base : BaseTree) (whole : IsWhole (get base.loaded)) (there : Out) (host : HostView) (sink sink' : SinkView) (disk mid disk' : DiskView) (begins : IfSome host.told (λ t. HasBase t j.run.inputs base)) (free : IfSome host.told (λ t. IsReady t j.run.out there)) (empty : HasEmptyJournal j disk) (calm : mid.faults ≡ disk.faults) where
   module _ (stop : RecordFault) (broken : HasBrokenOff base (shells_of j.run) mid disk' sink sink' stop) where
     abbrev stopped_at : (t : Tree) → HasBase t j.run.inputs base → IsReady t j.run.out there → IsStoppedRun t t j.run sink.written sink'.written
     stopped_at t is free = record {
@@ -135,15 +136,15 @@ module _ (j : JournalJob) (base : BaseTree) (whole : IsWhole (get base.loaded)) 
   broken_row fault.DiskFailed broken =
       let rose : Rose mid.faults disk'.faults = broken.cause in
       let all : Rose disk.faults disk'.faults = omega (arith, calm, rose) in
-      inr (record { empty = empty; broken = inr (all, at_disk fault.DiskFailed broken refl) })
-  broken_row fault.SinkFailed broken = inr (record { empty = empty; broken = inl (broken.calm sink_there ∙ calm, inr broken.cause, left fault.SinkFailed broken) })
+      inr (empty, inr (all, at_disk fault.DiskFailed broken refl))
+  broken_row fault.SinkFailed broken = inr (empty, inl (broken.calm sink_there ∙ calm, inr broken.cause, left fault.SinkFailed broken))
 
   pub not_recorded : (st : Status) → RecordCause base (shells_of j.run) mid disk' sink sink' st → JournalEnd j host host sink sink' disk disk' st
   not_recorded st cause = subst (λ st. JournalEnd j host host sink sink' disk disk' st) (sym cause.is) (broken_row cause.stop cause.broken)
 
 -- ---- a whole run
 
-module _ (j : JournalJob) (base : BaseTree) (there : Bool) (host host' : HostView) (sink mid sink' : SinkView) (disk started disk' : DiskView) (board : Log) (retries : List Retry) (scheduled : j.run.mode ≡ Scheduled (shells_of j.run)) (empty : HasEmptyJournal j disk) (calm : started.faults ≡ disk.faults) (begins : IfSome host.told (λ t. HasBase t j.run.inputs base)) (free : IfSome host.told (λ t. IsReady t j.run.out there)) (had : HasRecorded base (shells_of j.run) started disk' sink mid board retries) where
+module _ (j : JournalJob) (base : BaseTree) (there : Out) (host host' : HostView) (sink mid sink' : SinkView) (disk started disk' : DiskView) (board : Log) (retries : List Retry) (scheduled : j.run.mode ≡ Scheduled (shells_of j.run)) (empty : HasEmptyJournal j disk) (calm : started.faults ≡ disk.faults) (begins : IfSome host.told (λ t. HasBase t j.run.inputs base)) (free : IfSome host.told (λ t. IsReady t j.run.out there)) (had : HasRecorded base (shells_of j.run) started disk' sink mid board retries) where
   abbrev pub text : List ℕ
   text = report board.base board.order retries
 
@@ -217,13 +218,16 @@ module _ (j : JournalJob) (base : BaseTree) (there : Bool) (host host' : HostVie
   all_grown : HasGrown text mid sink' → HasGrown output sink sink'
   all_grown grown = grown_more (lines had.events) (report base board.order retries) sink mid sink' had.printed (grown_as text (report base board.order retries) mid sink' text_as grown)
 
-  is_done : (t t' : Tree) → HasGrown output sink sink' → Begins t → IsSaved t t' (parts j.run.out) nodes → IsDone (run_making j.run) t t' sink.written sink'.written
+  abbrev Done : Tree → Tree → Type 0
+  Done = IsMade (run_making j.run) (run_making j.run).stands (λ output. Prints output sink sink')
+
+  is_done : (t t' : Tree) → HasGrown output sink sink' → Begins t → IsSaved t t' (parts j.run.out) nodes → Done t t'
   is_done t t' grown is saved = record {
     end = (nodes, output);
     there = there;
     comes = record { base = base; order = board.order; retries = retries; begins = is.0; complete = had.traced.complete; tried = had.traced.tried; printed = printed; last = last };
     free = is.1;
-    stands = saved;
+    left = saved;
     written = grown;
   }
 
@@ -235,15 +239,17 @@ module _ (j : JournalJob) (base : BaseTree) (there : Bool) (host host' : HostVie
       let grows = all_grown grown in (
         empty,
         all_calm,
-        grows_all sink sink' output grows,
-        if_told_map (λ t t'. IsSaved t t' (parts j.run.out) nodes) (λ t t'. IsDone (run_making j.run) t t' sink.written sink'.written) Begins host.told host'.told (λ t t' is saved. is_done t t' grows is saved) both saves,
+        (
+          grows_all sink sink' output grows,
+          if_told_map (λ t t'. IsSaved t t' (parts j.run.out) nodes) Done Begins host.told host'.told (λ t t' is saved. is_done t t' grows is saved) both saves,
+        ),
       )
   finished st (unmade part none) = inr (empty, all_calm, partly part none)
-  finished st (unsaved part cause none) = inr (record { empty = empty; broken = inl (all_calm, inl (unsaved_cause cause), part_at_most j.run sink sink' host.told host'.told (partly part none)) })
+  finished st (unsaved part cause none) = inr (empty, inl (all_calm, inl (unsaved_cause cause), part_at_most j.run sink sink' host.told host'.told (partly part none)))
   finished st (unprinted saves front rose) =
       let count = front_of text mid sink' front in
       let all : Rose sink.faults sink'.faults = omega (arith, had.later, rose) in
-      inr (record { empty = empty; broken = inl (all_calm, inr all, whole count.0 saves count.1) })
+      inr (empty, inl (all_calm, inr all, whole count.0 saves count.1))
 
 -- ---- a row from a later moment on is one from an earlier moment on, where only reads lie between
 
@@ -259,28 +265,25 @@ unbegun_back j a b c sink sink' disk disk' reads is = record {
   where
     back : (CannotReach j.run b c × (disk' ≡ disk)) ⊎ CannotStart j b disk disk' → (CannotReach j.run a c × (disk' ≡ disk)) ⊎ CannotStart j a disk disk'
     back (inl (cannot, same)) = inl (failed_in_back j.run.out (λ _. is_fit j.run.out) a b c reads cannot, same)
-    back (inr (fault, free)) = inr (fault, some_back (λ t. (there : Bool) × IsReady t j.run.out there) a b reads free)
+    back (inr (fault, free)) = inr (fault, some_back (λ t. (there : Out) × IsReady t j.run.out there) a b reads free)
 
-broken_back : (j : JournalJob) (a b c : HostView) (sink sink' : SinkView) (disk disk' : DiskView) → ReadsOnly a b → IsBrokenOff j b c sink sink' disk disk' → IsBrokenOff j a c sink sink' disk disk'
-broken_back j a b c sink sink' disk disk' reads is = record { empty = is.empty; broken = back is.broken }
+broken_back : (j : RunJob) (a b c : HostView) (sink sink' : SinkView) (disk disk' : DiskView) → ReadsOnly a b → HasBroken j b c sink sink' disk disk' → HasBroken j a c sink sink' disk disk'
+broken_back j a b c sink sink' disk disk' reads (inl (calm, why, left)) = inl (calm, cause why, told_back _ a b c reads left)
   where
-    cause : CannotLeave j.run b c ⊎ Rose sink.faults sink'.faults → CannotLeave j.run a c ⊎ Rose sink.faults sink'.faults
-    cause (inl cannot) = inl (leave_back j.run a b c reads cannot)
+    cause : CannotLeave j b c ⊎ Rose sink.faults sink'.faults → CannotLeave j a c ⊎ Rose sink.faults sink'.faults
+    cause (inl cannot) = inl (leave_back j a b c reads cannot)
     cause (inr rose) = inr rose
-
-    back : HasBroken j.run b c sink sink' disk disk' → HasBroken j.run a c sink sink' disk disk'
-    back (inl (calm, why, left)) = inl (calm, cause why, told_back _ a b c reads left)
-    back (inr (rose, left)) = inr (rose, told_back _ a b c reads left)
+broken_back j a b c sink sink' disk disk' reads (inr (rose, left)) = inr (rose, told_back _ a b c reads left)
 
 pub end_back : (j : JournalJob) (a b c : HostView) (sink sink' : SinkView) (disk disk' : DiskView) (st : Status) → ReadsOnly a b → JournalEnd j b c sink sink' disk disk' st → JournalEnd j a c sink sink' disk disk' st
-end_back j a b c sink sink' disk disk' status.Done reads row = (row.0, row.1, row.2, told_back _ a b c reads row.3)
-end_back j a b c sink sink' disk disk' status.Usage reads row = row
-end_back j a b c sink sink' disk disk' (status.TextRefused word cause) reads row = (same_back a b c sink sink' reads row.0, row.1, (inputs_steady j.run.inputs).refused a b word cause reads row.2)
-end_back j a b c sink sink' disk disk' (status.FolderRefused cause) reads row = (same_back a b c sink sink' reads row.0, row.1, (inputs_steady j.run.inputs).unloaded a b cause reads row.2)
-end_back j a b c sink sink' disk disk' status.ReadFault reads row = (same_back a b c sink sink' reads row.0, row.1, (inputs_steady j.run.inputs).failed a b c reads row.2)
+end_back j a b c sink sink' disk disk' status.Done reads row = (row.0, row.1, (row.2.0, told_back _ a b c reads row.2.1))
+end_back j a b c sink sink' disk disk' status.Usage reads row = absurd row.1.1
+end_back j a b c sink sink' disk disk' (status.TextRefused word cause) reads row = (row.0, (same_back a b c sink sink' reads row.1.0, inputs_steady j.run.inputs a b c (status.TextRefused word cause) reads row.1.1))
+end_back j a b c sink sink' disk disk' (status.FolderRefused cause) reads row = (row.0, (same_back a b c sink sink' reads row.1.0, inputs_steady j.run.inputs a b c (status.FolderRefused cause) reads row.1.1))
+end_back j a b c sink sink' disk disk' status.ReadFault reads row = (row.0, (same_back a b c sink sink' reads row.1.0, inputs_steady j.run.inputs a b c status.ReadFault reads row.1.1))
 end_back j a b c sink sink' disk disk' status.NotEmpty reads row = (same_back a b c sink sink' reads row.0, row.1, row.2, some_back _ a b reads row.3)
 end_back j a b c sink sink' disk disk' status.WriteFault reads (inl row) = inl (unbegun_back j a b c sink sink' disk disk' reads row)
-end_back j a b c sink sink' disk disk' status.WriteFault reads (inr row) = inr (broken_back j a b c sink sink' disk disk' reads row)
+end_back j a b c sink sink' disk disk' status.WriteFault reads (inr row) = inr (row.0, broken_back j.run a b c sink sink' disk disk' reads row.1)
 end_back j a b c sink sink' disk disk' status.NoMemory reads (inl row) = inl (same_back a b c sink sink' reads row.0, row.1)
 end_back j a b c sink sink' disk disk' status.NoMemory reads (inr row) = inr (row.0, row.1, told_back _ a b c reads row.2)
-end_back j a b c sink sink' disk disk' (status.BadJournal place) reads row = row
+end_back j a b c sink sink' disk disk' (status.BadJournal place) reads row = absurd row.1.1

@@ -1,5 +1,5 @@
 -- What the journal keeps, from what the stages ensure.
-use Rattle.std.proofs.Common.{◌≡◌, ◌⊎◌, inl, inr, ℕ, Bool, List, [], ◌∷◌, ◌++◌, length, take, Option, Some, None, refl, sym, ap, subst, arith}
+use Rattle.std.proofs.Common.{◌≡◌, ◌⊎◌, inl, inr, ℕ, List, [], ◌∷◌, ◌++◌, length, take, Option, Some, None, refl, sym, ap, subst, arith}
 use Rattle.std.specs.Prelude.{IfSome}
 use Rattle.std.proofs.lemmas.List.{take_all}
 use Rattle.fx_base.proofs.Results.{IsSomeAnd-weaker}
@@ -13,6 +13,7 @@ use Rattle.fx_machine.specs.Turns.{stops}
 use Rattle.fx_store.specs.Whole.{Nodes}
 use Rattle.fx_board.specs.Board.{last_state}
 use Rattle.fx_board.specs.Log.{Log}
+use Rattle.fx_folder.specs.declared.readying.Out.{Out}
 use Rattle.fx_report.specs.Entries.{report}
 use Rattle.fx_report.specs.Events.{lines}
 use Rattle.fx_command.specs.declared.status.Status.{Status}
@@ -126,7 +127,7 @@ pub front_of : (text : List ℕ) (sink sink' : SinkView) → IfSome sink.written
 front_of text sink sink' front = count_of sink.written (λ w n. sink'.written ≡ Some (w ++ take n text)) front
 
 -- how much of the report is written
-pub front_left : (out : List ℕ) (there : Bool) (nodes : Nodes) (text : List ℕ) (host host' : HostView) (sink sink' : SinkView) (st : Status) → SaveEnd out there nodes text host host' sink sink' st → (n : ℕ) × HasGrown (take n text) sink sink'
+pub front_left : (out : List ℕ) (there : Out) (nodes : Nodes) (text : List ℕ) (host host' : HostView) (sink sink' : SinkView) (st : Status) → SaveEnd out there nodes text host host' sink sink' st → (n : ℕ) × HasGrown (take n text) sink sink'
 front_left out there nodes text host host' sink sink' st (done saves grown) = (length text, grown_as text (take (length text) text) sink sink' (sym (take_all (length text) text (omega arith))) grown)
 front_left out there nodes text host host' sink sink' st (unmade part same) = (0, nothing_more text sink sink' same)
 front_left out there nodes text host host' sink sink' st (unsaved part cause same) = (0, nothing_more text sink sink' same)
@@ -151,7 +152,7 @@ module _ (base : BaseTree) (schedule : List ℕ) (disk disk' : DiskView) (sink m
   pub grown_by : (n : ℕ) (sink' : SinkView) → HasGrown (take n text) mid sink' → HasGrown (bytes_of n) sink sink'
   grown_by n sink' grown = grown_more (lines had.events) (take n text_by_events) sink mid sink' had.printed (grown_as (take n text) (take n text_by_events) mid sink' (ap (λ l. take n l) text_same) grown)
 
-pub finished_keeps : (j : JournalJob) (base : BaseTree) (there : Bool) (host host' : HostView) (sink mid sink' : SinkView) (disk started disk' : DiskView) (board : Log) (retries : List Retry) (st : Status) → IfSome host.told (λ t. HasBase t j.run.inputs base) → HasEmptyJournal j disk → Continues disk started → MayLeaveGate started → HasRecorded base (shells_of j.run) started disk' sink mid board retries
+pub finished_keeps : (j : JournalJob) (base : BaseTree) (there : Out) (host host' : HostView) (sink mid sink' : SinkView) (disk started disk' : DiskView) (board : Log) (retries : List Retry) (st : Status) → IfSome host.told (λ t. HasBase t j.run.inputs base) → HasEmptyJournal j disk → Continues disk started → MayLeaveGate started → HasRecorded base (shells_of j.run) started disk' sink mid board retries
     → SaveEnd j.run.out there (last_state board) (report board.base board.order retries) host host' mid sink' st → KeepsJournal j host sink sink' disk disk'
 finished_keeps j base there host host' sink mid sink' disk started disk' board retries st begins empty continues gate had end =
     let front = front_left j.run.out there (last_state board) (report board.base board.order retries) host host' mid sink' st end in

@@ -1,22 +1,22 @@
 -- What each status of `journal` says: where it comes, and what is then left at the host, at the sink and on the disk.
-use Rattle.std.specs.Prelude.{◌≡◌, ◌⊎◌, ◌<◌, ℕ, Bool, List, [], ◌∷◌, ◌++◌, length, Option, Some, IfSome, IsSomeAnd}
+use Rattle.std.specs.Prelude.{◌≡◌, ◌⊎◌, ◌<◌, ℕ, List, [], ◌∷◌, ◌++◌, length, Option, Some, IfSome, IsSomeAnd}
 use Rattle.fx_base.specs.Causes.{Rose}
 use Rattle.fx_store.specs.Whole.{Nodes}
 use Rattle.fx_outside.specs.Host.{HostView, FaultIn, HasFailed}
 use Rattle.fx_outside.specs.Path.{parts, is_fit}
 use Rattle.fx_outside.specs.Sink.{SinkView}
 use Rattle.fx_outside.specs.Tree.{Tree}
+use Rattle.fx_folder.specs.declared.readying.Out.{Out}
 use Rattle.fx_folder.specs.Folder.{IfTold, IsReady, IsTaken, IsSaved, IsPartlySaved}
 use Rattle.fx_spec.specs.Order.{BaseTree, state}
 use Rattle.fx_machine.specs.Machine.{Machine}
 use Rattle.fx_words.specs.Job.{RunJob, JournalJob, shells_of}
 use Rattle.fx_command.specs.declared.status.Status.{Status}
 use Rattle.fx_command.specs.declared.status.Status.TheVariants as status
-use Rattle.fx_command.specs.Left.{IsSame, Grows}
-use Rattle.fx_command.specs.Table.{IsDone, CannotSave}
+use Rattle.fx_command.specs.Left.{IsSame}
+use Rattle.fx_command.specs.Table.{CannotSave, CommandRow}
 use Rattle.fx_inputs.specs.Inputs.{HasInputs, HasBase}
-use Rattle.fx_inputs.specs.Readings.{inputs_reading}
-use Rattle.fx_run_commands.specs.Runs.Rows.{run_making, run_command, IsProperRun, RunAsks}
+use Rattle.fx_run_commands.specs.Runs.Rows.{run_command, RunAsks}
 use Rattle.fx_durable.specs.Disk.{File, DiskView, LeftSince, GoesOn, IsUnstarted, IsAsTold, TellsLength, FailsAt, TellsAt, ChoosesFirst, moment}
 use Rattle.fx_journaling.specs.Kept.{IfFile}
 use Rattle.fx_journaling.specs.Recorded.{KeepsRun}
@@ -25,7 +25,7 @@ use Rattle.fx_journaling.specs.Written.{HasWritten, events_written, HasWrittenEv
 -- some of a run's events are written, which is a front of the output of a whole run, and OUT is as before
 pub record IsStoppedRun (t t' : Tree) (j : RunJob) (before after : Option (List ℕ)) : Type 0 where
   pub base : BaseTree
-  pub there : Bool
+  pub there : Out
   pub begins : HasBase t j.inputs base
   pub free : IsReady t j.out there
   pub machine : Machine
@@ -44,7 +44,7 @@ pub record IsStoppedAtDisk (t t' : Tree) (j : RunJob) (before after : Option (Li
 pub record HasWrittenAll (t : Tree) (j : RunJob) (report_length : ℕ) (IsAtOut : Nodes → Type 0) (before after : Option (List ℕ)) : Type 0 where
   pub base : BaseTree
   pub nodes : Nodes
-  pub there : Bool
+  pub there : Out
   pub begins : HasBase t j.inputs base
   pub free : IsReady t j.out there
   pub machine : Machine
@@ -55,21 +55,14 @@ pub record HasWrittenAll (t : Tree) (j : RunJob) (report_length : ℕ) (IsAtOut 
   pub left : IsAtOut nodes
   pub written : IfSome before (λ w. after ≡ Some (w ++ bytes))
 
--- all events are written and no byte of the report, and OUT holds a part of the last filestore's folder at most
-abbrev pub IsPartlyLeft : Tree → Tree → RunJob → Option (List ℕ) → Option (List ℕ) → Type 0
-IsPartlyLeft t t' j before after = HasWrittenAll t j 0 (IsPartlySaved t t' (parts j.out)) before after
-
--- all events and a front of the report are written, and OUT is whole
-abbrev pub IsWholeLeft : Tree → Tree → RunJob → Option (List ℕ) → Option (List ℕ) → Type 0
-IsWholeLeft t t' j before after = (count : ℕ) × HasWrittenAll t j count (IsSaved t t' (parts j.out)) before after
-
--- what is left of a run that ends before a byte of its report is written
+-- what is left of a run that ends before a byte of its report is written: it was stopped, or OUT holds a part of the last
+-- filestore's folder at most
 abbrev pub IsLeft : RunJob → Option (List ℕ) → Option (List ℕ) → Tree → Tree → Type 0
-IsLeft j before after t t' = IsStoppedRun t t' j before after ⊎ IsPartlyLeft t t' j before after
+IsLeft j before after t t' = IsStoppedRun t t' j before after ⊎ HasWrittenAll t j 0 (IsPartlySaved t t' (parts j.out)) before after
 
 -- the same, or OUT is whole and a front of the report is written
 abbrev pub IsLeftOrWhole : RunJob → Option (List ℕ) → Option (List ℕ) → Tree → Tree → Type 0
-IsLeftOrWhole j before after t t' = IsLeft j before after t t' ⊎ IsWholeLeft t t' j before after
+IsLeftOrWhole j before after t t' = IsLeft j before after t t' ⊎ ((count : ℕ) × HasWrittenAll t j count (IsSaved t t' (parts j.out)) before after)
 
 -- a call at OUT failed, OUT is unfit, or nothing stands there and no folder above
 abbrev pub CannotLeave : RunJob → HostView → HostView → Type 0
@@ -77,7 +70,7 @@ CannotLeave j host host' = FaultIn j.out host host' ⊎ IsSomeAnd host.told (Can
 
 -- the journal is not started, and OUT is free
 abbrev pub CannotStart : JournalJob → HostView → DiskView → DiskView → Type 0
-CannotStart j host disk disk' = FailsAt j.journal disk disk' × IfSome host.told (λ t. (there : Bool) × IsReady t j.run.out there)
+CannotStart j host disk disk' = FailsAt j.journal disk disk' × IfSome host.told (λ t. (there : Out) × IsReady t j.run.out there)
 
 -- a call at OUT failed, or OUT is unfit
 abbrev pub CannotReach : RunJob → HostView → HostView → Type 0
@@ -100,30 +93,21 @@ HasBroken j host host' sink sink' disk disk' =
     ((disk'.faults ≡ disk.faults) × (CannotLeave j host host' ⊎ Rose sink.faults sink'.faults) × IfTold host.told host'.told (IsLeftOrWhole j sink.written sink'.written))
     ⊎ (Rose disk.faults disk'.faults × IfTold host.told host'.told (λ t t'. IsStoppedAtDisk t t' j sink.written sink'.written))
 
--- a run was begun on an empty journal and is not brought to its end, as OUT, the output or the journal is not written
-pub record IsBrokenOff (j : JournalJob) (host host' : HostView) (sink sink' : SinkView) (disk disk' : DiskView) : Type 0 where
-  pub empty : HasEmptyJournal j disk
-  pub broken : HasBroken j.run host host' sink sink' disk disk'
-
--- memory ran out before a byte of the report was written: before the journal was begun, or after, on an empty one
-abbrev pub HasNoMemory : JournalJob → HostView → HostView → SinkView → SinkView → DiskView → DiskView → Type 0
-HasNoMemory j host host' sink sink' disk disk' = (IsSame host host' sink sink' × (disk' ≡ disk)) ⊎ (HasEmptyJournal j disk × (disk'.faults ≡ disk.faults) × IfTold host.told host'.told (IsLeft j.run sink.written sink'.written))
-
 -- the file that the disk tells is at this path, and holds something already
 abbrev pub HoldsBytes : List ℕ → DiskView → Type 0
 HoldsBytes path disk = TellsAt disk path × IfSome disk.told (λ file. 0 < length file.seen)
 
--- how `journal` ends
+-- How `journal` ends. OUT, the output or the journal is not written: no run was begun; or one was on an empty journal. Memory runs
+-- out before a byte of the report is written: before the journal was begun, or after, on an empty one.
 abbrev pub JournalEnd : JournalJob → HostView → HostView → SinkView → SinkView → DiskView → DiskView → Status → Type 0
-JournalEnd j host host' sink sink' disk disk' status.Done = HasEmptyJournal j disk × (disk'.faults ≡ disk.faults) × Grows sink sink' × IfTold host.told host'.told (λ t t'. IsDone (run_making j.run) t t' sink.written sink'.written)
-JournalEnd j host host' sink sink' disk disk' (status.TextRefused word cause) = IsSame host host' sink sink' × (disk' ≡ disk) × (inputs_reading j.run.inputs).refused host word cause
-JournalEnd j host host' sink sink' disk disk' (status.FolderRefused cause) = IsSame host host' sink sink' × (disk' ≡ disk) × (inputs_reading j.run.inputs).unloaded host cause
-JournalEnd j host host' sink sink' disk disk' status.ReadFault = IsSame host host' sink sink' × (disk' ≡ disk) × (inputs_reading j.run.inputs).failed host host'
+JournalEnd j host host' sink sink' disk disk' status.Done = HasEmptyJournal j disk × (disk'.faults ≡ disk.faults) × CommandRow (run_command j.run) host host' sink sink' status.Done
 JournalEnd j host host' sink sink' disk disk' status.NotEmpty =
-    IsSame host host' sink sink' × IsAsTold disk disk' × (disk'.faults ≡ disk.faults) × IfSome host.told (λ t. HasInputs t j.run.inputs × (IsTaken t j.run.out ⊎ (((there : Bool) × IsReady t j.run.out there) × HoldsBytes j.journal disk)))
-JournalEnd j host host' sink sink' disk disk' status.WriteFault = IsUnbegun j host host' sink sink' disk disk' ⊎ IsBrokenOff j host host' sink sink' disk disk'
-JournalEnd j host host' sink sink' disk disk' status.NoMemory = HasNoMemory j host host' sink sink' disk disk'
-JournalEnd j host host' sink sink' disk disk' _ = ⊥
+    IsSame host host' sink sink' × IsAsTold disk disk' × (disk'.faults ≡ disk.faults) × IfSome host.told (λ t. HasInputs t j.run.inputs × (IsTaken t j.run.out ⊎ (((there : Out) × IsReady t j.run.out there) × HoldsBytes j.journal disk)))
+JournalEnd j host host' sink sink' disk disk' status.WriteFault =
+    IsUnbegun j host host' sink sink' disk disk' ⊎ (HasEmptyJournal j disk × HasBroken j.run host host' sink sink' disk disk')
+JournalEnd j host host' sink sink' disk disk' status.NoMemory =
+    (IsSame host host' sink sink' × (disk' ≡ disk)) ⊎ (HasEmptyJournal j disk × (disk'.faults ≡ disk.faults) × IfTold host.told host'.told (IsLeft j.run sink.written sink'.written))
+JournalEnd j host host' sink sink' disk disk' st = (disk' ≡ disk) × CommandRow (run_command j.run) host host' sink sink' st
 
 -- the table for `journal`: however it ends, a file is chosen before anything is asked of the disk, and no path but JOURNAL on a
 -- disk whose told file is there
@@ -159,8 +143,3 @@ KeepsJournal j host sink sink' disk disk' =
 -- nothing is asked of the host but at the texts, in the folder and in OUT
 abbrev pub JournalAsks : JournalJob → HostView → HostView → Type 0
 JournalAsks j host host' = RunAsks j.run host host'
-
--- what a run needs, and an empty journal at the path that the disk tells
-pub record IsProperJournal (t : Tree) (disk : DiskView) (j : JournalJob) : Type 0 where
-  pub run : IsProperRun t j.run
-  pub empty : IsSomeAnd disk.told (λ file. (file.path ≡ j.journal) × (file.seen ≡ []))

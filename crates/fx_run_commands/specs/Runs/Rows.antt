@@ -1,15 +1,13 @@
 -- What each status of a run says: the table of statuses, for what a run reads, comes to and prints.
 use Rattle.std.specs.Prelude.{◌≡◌, ℕ, List}
 use Rattle.fx_store.specs.Whole.{Nodes}
-use Rattle.fx_outside.specs.Host.{HostView, Guard}
+use Rattle.fx_outside.specs.Host.{HostView}
 use Rattle.fx_outside.specs.Sink.{SinkView}
-use Rattle.fx_outside.specs.Tree.{Tree}
 use Rattle.fx_words.specs.Job.{RunJob}
 use Rattle.fx_command.specs.declared.status.Status.{Status}
-use Rattle.fx_command.specs.Out.{IsProperOut, LetsOut}
 use Rattle.fx_command.specs.Table.{Making, Command, CommandRow, leaving_folder}
 use Rattle.fx_inputs.specs.Inputs.{HasInputs}
-use Rattle.fx_inputs.specs.Reads.{LetsInputs}
+use Rattle.fx_inputs.specs.Reads.{LetsRun}
 use Rattle.fx_inputs.specs.Readings.{inputs_reading}
 use Rattle.fx_run_commands.specs.Runs.Outcome.{IsOutcome}
 
@@ -25,16 +23,6 @@ run_command j = record { reads = inputs_reading j.inputs; all = λ t. HasInputs 
 abbrev pub RunRow : RunJob → HostView → HostView → SinkView → SinkView → Status → Type 0
 RunRow j = CommandRow (run_command j)
 
--- the fences let the texts and the folder be read, and OUT be written
-pub record LetsRun (guard : Guard) (j : RunJob) : Type 0 where
-  pub inputs : LetsInputs guard.may_read j.inputs
-  pub out : LetsOut guard j.out
-
 -- nothing is asked but at the texts, in the folder and in OUT
 abbrev pub RunAsks : RunJob → HostView → HostView → Type 0
-RunAsks j host host' = LetsRun host.guard j → host'.guard ≡ host.guard
-
--- texts that stand for a description and scripts, a folder that loads, and an OUT that is an empty folder or can be made
-pub record IsProperRun (t : Tree) (j : RunJob) : Type 0 where
-  pub inputs : HasInputs t j.inputs
-  pub out : IsProperOut t j.out
+RunAsks j host host' = LetsRun host.guard j.inputs j.out → host'.guard ≡ host.guard

@@ -16,6 +16,7 @@ ghost use Rattle.fx_run_commands.specs.Journals.Stages.{MayLeaveGate, StartCause
 
 use fx_command::{Status, ready_out, save_and_print};
 use fx_durable::{Disk, Journal, StartFault};
+use fx_folder::Out;
 use fx_inputs::read_base;
 use fx_journaling::{RecordFault, Recorded, record};
 use fx_outside::{Host, HostText, Sink};
@@ -82,7 +83,7 @@ fn run_on<D: Disk, S: Sink>(
 fn finish<H: Host, S: Sink>(
     alloc: Global,
     out_path: &HostText,
-    there: bool,
+    there: Out,
     recorded: &Recorded,
     host: &mut H,
     out: &mut S,
@@ -103,7 +104,7 @@ fn keep<H: Host, S: Sink, D: Disk>(
     alloc: Global,
     job: &JournalJob,
     base: Arc<Base>,
-    there: bool,
+    there: Out,
     host: &mut H,
     out: &mut S,
     disk: &mut D,

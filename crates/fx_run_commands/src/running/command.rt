@@ -14,6 +14,7 @@ ghost use Rattle.fx_run_commands.specs.Runs.Rows.{run_making, run_command, RunRo
 
 use crate::running::runs::{Answer, run_base, trace_base};
 use fx_command::{Status, ready_out, save_and_print};
+use fx_folder::Out;
 use fx_inputs::read_base;
 use fx_outside::{Gate, Host, Sink};
 use fx_spec::Base;
@@ -22,13 +23,13 @@ use std::alloc::Global;
 use std::sync::{Arc, Wait};
 use std::thread::Threads;
 
-/// Reads what a run begins with, and then sees that OUT can be written: whether an empty folder stands there already.
+/// Reads what a run begins with, and then sees that OUT can be written: that nothing stands there, or an empty folder.
 fn begin<R: Threads, H: Host>(
     rt: &R,
     alloc: Global,
     job: &RunJob,
     host: &mut H,
-) -> Result<(Arc<Base>, bool), Status>
+) -> Result<(Arc<Base>, Out), Status>
     requires { IsJob job.now }
     ensures read { IfOk result (λ r. IfSome (H.view host.old).told
         (λ t. HasBase t (asked job.now).inputs (base_tree r.0.value))) }
@@ -55,7 +56,7 @@ fn begin<R: Threads, H: Host>(
 fn leave<H: Host, S: Sink>(
     alloc: Global,
     job: &RunJob,
-    there: bool,
+    there: Out,
     answer: &Answer,
     host: &mut H,
     out: &mut S,

@@ -11,7 +11,8 @@ use Rattle.fx_lex.specs.declared.token.Mark.TheVariants as mark
 use Rattle.fx_parse.specs.declared.keyword.Keyword.TheVariants as keyword
 use Rattle.fx_parse.specs.declared.sign.Sign.TheVariants as sign
 use Rattle.fx_parse.specs.Stuck.{Stuck, Unexpected, ◌>>=◌}
-use Rattle.fx_parse.specs.Grammars.{word, opening, closing, comma, expr_tokens, expr_levels, shape_tokens, shape_levels, is_name, has_names}
+use Rattle.fx_parse.specs.Keywords.{word}
+use Rattle.fx_parse.specs.Grammars.{opening, closing, comma, expr_tokens, expr_levels, shape_tokens, shape_levels, is_name, has_names}
 use Rattle.fx_parse.specs.Reader.{ReadExpr, read_expr}
 use Rattle.fx_parse.specs.ShapeReader.{read_shape}
 use Rattle.fx_parse.specs.Signs.{is_sign, closed_by}

@@ -12,9 +12,10 @@ use Rattle.fx_parse.specs.declared.keyword.Keyword.{Keyword}
 use Rattle.fx_parse.specs.declared.keyword.Keyword.TheVariants as keyword
 use Rattle.fx_parse.specs.declared.sign.Sign.{Sign}
 use Rattle.fx_parse.specs.declared.sign.Sign.TheVariants as sign
-use Rattle.fx_parse.specs.Keywords.{keyword_bytes, keyword_of}
-use Rattle.fx_parse.specs.Grammars.{word, opening, closing, comma, expr_tokens, expr_levels, shape_tokens, shape_levels, is_name, has_names}
+use Rattle.fx_parse.specs.Keywords.{keyword_bytes, keyword_of, word}
+use Rattle.fx_parse.specs.Grammars.{opening, closing, comma, expr_tokens, expr_levels, shape_tokens, shape_levels, is_name, has_names}
 use Rattle.fx_parse.specs.Signs.{sign_token, is_sign}
+use Rattle.fx_parse.proofs.Finds.{is_no_keyword}
 use Rattle.fx_parse.proofs.KeywordLaws.{keyword_again}
 use Rattle.fx_parse.proofs.Machine.{Table, Runs, run_under}
 use Rattle.fx_parse.proofs.ExprMachine as inner
@@ -145,7 +146,7 @@ pub start_word : (k : Keyword) → start_of (word k) ≡ keyword_start k
 start_word k = ap (word_start (keyword_bytes k)) (keyword_again k)
 
 pub start_name : (f : List ℕ) → is_name f ≡ true → start_of (token.Word f) ≡ start.Call f
-start_name f h = ap (word_start f) (none_is (keyword_of f) h)
+start_name f h = ap (word_start f) (none_is (keyword_of f) (sym (is_no_keyword f) ∙ h))
 
 -- the tokens of the forms, part by part
 pub focus_tokens : (e : ExprTree) (s : WrittenTree) → spec_tokens (WrittenTree.focus e s) ≡ opening ∷ (expr_tokens e ++ (token.Mark mark.ColonColon ∷ (spec_tokens s ++ closing ∷ [])))

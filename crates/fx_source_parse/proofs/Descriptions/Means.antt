@@ -14,9 +14,10 @@ use Rattle.fx_parse.specs.declared.keyword.Keyword.{Keyword}
 use Rattle.fx_parse.specs.declared.keyword.Keyword.TheVariants as keyword
 use Rattle.fx_parse.specs.declared.sign.Sign.{Sign}
 use Rattle.fx_parse.specs.declared.sign.Sign.TheVariants as sign
-use Rattle.fx_parse.specs.Keywords.{keyword_of}
-use Rattle.fx_parse.specs.Grammars.{word, opening, closing, comma, expr_tokens, shape_tokens, is_name, has_names}
+use Rattle.fx_parse.specs.Keywords.{keyword_of, word}
+use Rattle.fx_parse.specs.Grammars.{opening, closing, comma, expr_tokens, shape_tokens, is_name, has_names}
 use Rattle.fx_parse.specs.Signs.{sign_token, is_sign}
+use Rattle.fx_parse.proofs.Finds.{is_no_keyword}
 use Rattle.fx_parse.proofs.Machine.{Runs, MeansAll, means_split, built}
 use Rattle.fx_parse.proofs.Places.{Fits}
 use Rattle.fx_parse.proofs.ExprMachine as inner
@@ -200,7 +201,7 @@ keyword_spells keyword.Pred = refl
 keyword_spells _ = tt
 
 word_spells : (w : List ℕ) (o : Option Keyword) → keyword_of w ≡ o → StartSpells (word_start w o) (token.Word w)
-word_spells w None e = (ap is_none e, refl)
+word_spells w None e = (is_no_keyword w ∙ ap is_none e, refl)
 word_spells w (Some k) e = subst (λ x. StartSpells (keyword_start k) x) (sym (keyword_spelled w k e)) (keyword_spells k)
 
 mark_spells : (m : Mark) → StartSpells (mark_start m) (token.Mark m)

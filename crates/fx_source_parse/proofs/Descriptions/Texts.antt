@@ -1,6 +1,7 @@
 -- From readings of tokens to what a text stands for.
 use Rattle.std.proofs.Common.{◌≡◌, ◌≤◌, ◌-◌, ℕ, zero, suc, Result, Ok, Err, List, [], ◌∷◌, length, refl, sym, ap, ◌∙◌, subst, arith}
 use Rattle.std.specs.Prelude.{map, slice_get}
+use Rattle.std.specs.Option.{option_map_or}
 use Rattle.std.proofs.lemmas.List.{append-nil, length-map}
 use Rattle.fx_lex.specs.declared.token.Token.{Token}
 use Rattle.fx_lex.specs.declared.token.Spanned.{Spanned}
@@ -13,14 +14,15 @@ use Rattle.fx_parse.specs.declared.fault.ParseFault.TheVariants as fault
 use Rattle.fx_parse.specs.Stuck.{Stuck, Unexpected, TooNested, ◌>>=◌, Stops}
 use Rattle.fx_parse.specs.Readable.{Stands, IsTooNested}
 use Rattle.fx_parse.specs.Reader.{kinds}
-use Rattle.fx_parse.specs.ReadAt.{start_or, place_left, fault_at}
+use Rattle.fx_parse.specs.ReadAt.{place_left, fault_at}
 use Rattle.fx_parse.proofs.ReaderPlaces.{stands_read, read_stands, read_unexpected, read_too_nested}
+use Rattle.fx_spec.specs.Levels.{text_levels}
 use Rattle.fx_spec.specs.Written.{TextTree}
 use Rattle.fx_grammar.specs.Tokens.{text_tokens}
 use Rattle.fx_grammar.specs.Texts.{IsDescription}
 use Rattle.fx_grammar.specs.Grammars.{descriptions}
 use Rattle.fx_grammar.specs.Refused.{IsMisplaced, IsRefusedDescription}
-use Rattle.fx_grammar.proofs.Deep.{text_deep, text_low}
+use Rattle.fx_grammar.proofs.Deep.{text_deep}
 use Rattle.fx_grammar.proofs.Wholes.{wrong_in_front, wrong_behind}
 use Rattle.fx_source_parse.specs.Descriptions.Reader.{read_text, ended, read_whole}
 use Rattle.fx_source_parse.proofs.Descriptions.Machine.{Text, table}
@@ -73,7 +75,7 @@ kinds_kept : (spanned : List Spanned) → kinds (map kept_at spanned) ≡ map ke
 kinds_kept [] = refl
 kinds_kept (s ∷ spanned) = ap (λ l. kept s.token ∷ l) (kinds_kept spanned)
 
-starts_kept : (spanned : List Spanned) (i end : ℕ) → start_or (slice_get (map kept_at spanned) i) end ≡ start_or (slice_get spanned i) end
+starts_kept : (spanned : List Spanned) (i end : ℕ) → option_map_or (λ s. s.start) (slice_get (map kept_at spanned) i) end ≡ option_map_or (λ s. s.start) (slice_get spanned i) end
 starts_kept [] i end = refl
 starts_kept (s ∷ spanned) zero end = refl
 starts_kept (s ∷ spanned) (suc i) end = starts_kept spanned i end
@@ -83,19 +85,18 @@ keeping spanned end = record { spanned = map kept_at spanned; text_len = end }
 
 place_kept : (spanned : List Spanned) (end k : ℕ) → place_left (keeping spanned end) k ≡ place_left (record { spanned = spanned; text_len = end }) k
 place_kept spanned end k =
-    ap (λ n. start_or (slice_get (map kept_at spanned) (n - k)) end) (length-map spanned kept_at) ∙ starts_kept spanned (length spanned - k) end
+    ap (λ n. option_map_or (λ s. s.start) (slice_get (map kept_at spanned) (n - k)) end) (length-map spanned kept_at) ∙ starts_kept spanned (length spanned - k) end
 
 -- the tokens of a text, and the list of them in which the word `def` is kept
 module _ (text : List ℕ) (spanned : List Spanned) (short : length text ≤ 65536) (tokens : AreTokensOf text spanned) where
   pub described : (t : TextTree) → read_whole (kinds (map kept_at spanned)) ≡ Ok t → IsDescription text t
   described t e =
       let stands = read_stands table descriptions Text read_text text_reader 1 64 refl (kinds (map kept_at spanned)) t [] (whole_ok (kinds (map kept_at spanned)) t e) in
-      let deep = text_deep 64 1 t (record { low = stands.nested }) in
       record {
         short = short;
         tokens = (spanned, tokens, sym (kinds_kept spanned) ∙ stands.spelled ∙ append-nil (text_tokens t));
         names = stands.right;
-        nested = omega (arith, deep);
+        nested = stands.nested;
       }
 
   pub refused : (why : Stop) → Stops why (read_whole (kinds (map kept_at spanned))) → IsRefusedDescription text (fault_at (keeping spanned (length text)) why)
@@ -117,10 +118,13 @@ module _ (text : List ℕ) (spanned : List Spanned) (short : length text ≤ 655
   }
   refused stop.NoMemory e = tt
 
+pub text_nested : (text : List ℕ) (t : TextTree) → IsDescription text t → text_levels t ≤ 64
+text_nested text t d = let deep = text_deep 64 1 t (record { low = d.nested }) in omega (arith, deep)
+
 pub read_again : (text : List ℕ) (spanned : List Spanned) (t : TextTree) → ((others : List Spanned) → AreTokensOf text others → spanned ≡ others) → IsDescription text t → read_whole (kinds (map kept_at spanned)) ≡ Ok t
 read_again text spanned t only d =
     let same : kinds (map kept_at spanned) ≡ text_tokens t = kinds_kept spanned ∙ ap (λ l. map kept (kinds l)) (only d.tokens.0 d.tokens.1) ∙ d.tokens.2 in
-    let stands : Stands descriptions 1 (kinds (map kept_at spanned)) t [] = record { right = d.names; nested = (text_low 64 1 t (omega (arith, d.nested))).low; spelled = same ∙ sym (append-nil (text_tokens t)) } in
+    let stands : Stands descriptions 1 (kinds (map kept_at spanned)) t [] = record { right = d.names; nested = d.nested; spelled = same ∙ sym (append-nil (text_tokens t)) } in
     whole_again (kinds (map kept_at spanned)) t (stands_read table descriptions Text read_text text_reader 1 64 refl (kinds (map kept_at spanned)) t [] stands)
 
 pub same_whole : (s t : TextTree) → ◌≡◌ {A = Result TextTree Stuck} (Ok s) (Ok t) → s ≡ t

@@ -11,8 +11,8 @@ use Rattle.fx_parse.specs.declared.keyword.Keyword.{Keyword}
 use Rattle.fx_parse.specs.declared.keyword.Keyword.TheVariants as keyword
 use Rattle.fx_parse.specs.declared.sign.Sign.{Sign}
 use Rattle.fx_parse.specs.declared.sign.Sign.TheVariants as sign
-use Rattle.fx_parse.specs.Keywords.{keyword_of}
-use Rattle.fx_parse.specs.Grammars.{word, opening, closing, expr_tokens, shape_tokens, is_name, has_names}
+use Rattle.fx_parse.specs.Keywords.{keyword_of, word}
+use Rattle.fx_parse.specs.Grammars.{opening, closing, expr_tokens, shape_tokens, is_name, has_names}
 use Rattle.fx_parse.specs.Signs.{sign_token, is_sign}
 use Rattle.fx_parse.proofs.Machine.{Runs, MeansAll, means_split, built}
 use Rattle.fx_parse.proofs.Places.{Fits}

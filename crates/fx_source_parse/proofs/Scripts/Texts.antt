@@ -1,10 +1,10 @@
 -- From readings of tokens to what the text of a script stands for.
-use Rattle.std.proofs.Common.{◌≡◌, ◌≤◌, ◌<◌, ◌-◌, ℕ, zero, suc, true, leb, Result, Ok, Err, List, [], ◌∷◌, ◌++◌, length, refl, sym, ap, ◌∙◌, subst, arith, append_assoc, length-append}
+use Rattle.std.proofs.Common.{◌≡◌, ◌≤◌, ◌<◌, ◌-◌, ℕ, zero, suc, true, Result, Ok, Err, List, [], ◌∷◌, ◌++◌, length, refl, sym, ap, ◌∙◌, subst, arith, append_assoc, length-append}
 use Rattle.std.specs.Prelude.{slice_get, All}
-use Rattle.std.proofs.lemmas.Bool.{and_parts, and_from}
+use Rattle.std.specs.Option.{option_map_or}
+use Rattle.std.proofs.lemmas.Bool.{and_parts}
 use Rattle.std.proofs.lemmas.List.{append-nil, length-map}
-use Rattle.std.proofs.lemmas.List.Elements.{All-nil, All-cons, All-head, All-tail}
-use Rattle.std.proofs.lemmas.List.Folds.{list_all-append}
+use Rattle.std.proofs.lemmas.List.Elements.{All-nil, All-cons}
 use Rattle.fx_lex.specs.declared.token.Token.{Token}
 use Rattle.fx_lex.specs.declared.token.Spanned.{Spanned}
 use Rattle.fx_lex.specs.TokenList.{TokenList}
@@ -15,19 +15,21 @@ use Rattle.fx_parse.specs.declared.fault.ParseFault.TheVariants as fault
 use Rattle.fx_parse.specs.Stuck.{Stuck, Unexpected, TooNested, ◌>>=◌, Stops}
 use Rattle.fx_parse.specs.Readable.{Stands, IsTooNested}
 use Rattle.fx_parse.specs.Reader.{kinds}
-use Rattle.fx_parse.specs.ReadAt.{start_or, fault_at}
+use Rattle.fx_parse.specs.ReadAt.{fault_at}
 use Rattle.fx_parse.proofs.Machine.{at_most}
 use Rattle.fx_parse.proofs.ExprLink.{front_low, rest_low}
 use Rattle.fx_parse.proofs.ReaderPlaces.{read_stands, read_unexpected, read_too_nested}
 use Rattle.fx_parse.specs.declared.keyword.Keyword.TheVariants as keyword
-use Rattle.fx_parse.specs.Grammars.{word, closing, expr_tokens}
+use Rattle.fx_parse.specs.Keywords.{word}
+use Rattle.fx_parse.specs.Grammars.{closing, expr_tokens}
 use Rattle.fx_spec.specs.CommandTree.{CommandTree, Block, block, count, count_block}
+use Rattle.fx_spec.specs.Levels.{txn_levels}
 use Rattle.fx_grammar.specs.Tokens.{command_tokens, block_tokens, txn_tokens, txn_names, script_tokens, script_names}
 use Rattle.fx_grammar.specs.TokenLevels.{txn_token_levels, script_token_levels}
-use Rattle.fx_grammar.specs.Texts.{IsTxn, IsScript}
+use Rattle.fx_grammar.specs.Texts.{IsScript}
 use Rattle.fx_grammar.specs.Grammars.{transactions, scripts}
 use Rattle.fx_grammar.specs.Refused.{IsMisplaced, IsRefused}
-use Rattle.fx_grammar.proofs.Deep.{txn_deep, txn_low}
+use Rattle.fx_grammar.proofs.Deep.{txn_deep}
 use Rattle.fx_source_parse.specs.Scripts.Reader.{read_txn, txn_added_at, txns_at, read_script}
 use Rattle.fx_source_parse.proofs.Scripts.Machine.{Txn, table, act_parts, brace, end_brace, branch_tokens, each_tokens}
 use Rattle.fx_source_parse.proofs.Scripts.Again.{txn_reader}
@@ -109,30 +111,23 @@ script_again : (us : Txns) → script_names us ≡ true → at_most 64 (script_t
 unfolding read_script
 script_again us h low = txns_again us (length (script_tokens us)) [] h low (omega arith)
 
+abbrev IsNested : List CommandTree → Type 0
+IsNested t = txn_levels t ≤ 64
+
 -- the transactions of a script, one by one
-are_txns : (us : Txns) → script_names us ≡ true → at_most 64 (script_token_levels 1 us) ≡ true → All IsTxn us
-are_txns [] h low = All-nil IsTxn
-are_txns (t ∷ us) h low =
-    let hs = and_parts (txn_names t) (script_names us) h in
+pub all_nested : (us : Txns) → at_most 64 (script_token_levels 1 us) ≡ true → All IsNested us
+all_nested [] low = All-nil IsNested
+all_nested (t ∷ us) low =
     let deep = txn_deep 64 1 t (record { low = front_low 64 (txn_token_levels 1 t) (script_token_levels 1 us) low }) in
-    All-cons IsTxn t us (record { names = hs.0; nested = omega (arith, deep) }) (are_txns us hs.1 (rest_low 64 (txn_token_levels 1 t) (script_token_levels 1 us) low))
-
-all_names : (us : Txns) → All IsTxn us → script_names us ≡ true
-all_names [] h = refl
-all_names (t ∷ us) h = and_from _ _ (All-head IsTxn t us h).names (all_names us (All-tail IsTxn t us h))
-
-all_low : (us : Txns) → All IsTxn us → at_most 64 (script_token_levels 1 us) ≡ true
-all_low [] h = refl
-all_low (t ∷ us) h =
-    let nested = (All-head IsTxn t us h).nested in
-    list_all-append (λ level. leb level 64) (txn_token_levels 1 t) (script_token_levels 1 us) ∙ and_from _ _ (txn_low 64 1 t (omega (arith, nested))).low (all_low us (All-tail IsTxn t us h))
+    All-cons IsNested t us (omega (arith, deep)) (all_nested us (rest_low 64 (txn_token_levels 1 t) (script_token_levels 1 us) low))
 
 module _ (text : List ℕ) (list : TokenList) (short : length text ≤ 65536) (tokens : AreTokensOf text list.spanned) where
   stands : (us : Txns) → Stands scripts 1 (kinds list.spanned) us [] → IsScript text us
   stands us s = record {
     short = short;
     tokens = (list.spanned, tokens, s.spelled ∙ append-nil (script_tokens us));
-    each = are_txns us s.right s.nested;
+    names = s.right;
+    nested = s.nested;
   }
 
   pub scripted : (us : Txns) → read_script (kinds list.spanned) ≡ Ok us → IsScript text us
@@ -147,7 +142,7 @@ module _ (text : List ℕ) (list : TokenList) (short : length text ≤ 65536) (t
     tokens = tokens;
     left = k;
     wrong = subst (λ r. Says [] (kinds list.spanned) r) e (script_says (kinds list.spanned));
-    stands = ap (λ n. start_or (slice_get list.spanned (length list.spanned - k)) n) len;
+    stands = ap (λ n. option_map_or (λ s. s.start) (slice_get list.spanned (length list.spanned - k)) n) len;
   }
   refused len (stop.TooNested k) e = record {
     short = short;
@@ -155,7 +150,7 @@ module _ (text : List ℕ) (list : TokenList) (short : length text ≤ 65536) (t
     tokens = tokens;
     left = k;
     wrong = subst (λ r. Says [] (kinds list.spanned) r) e (script_says (kinds list.spanned));
-    stands = ap (λ n. start_or (slice_get list.spanned (length list.spanned - k)) n) len;
+    stands = ap (λ n. option_map_or (λ s. s.start) (slice_get list.spanned (length list.spanned - k)) n) len;
   }
   refused len stop.NoMemory e = tt
 
@@ -201,7 +196,7 @@ few_commands spanned us few e =
 
 pub read_again : (text : List ℕ) (list : TokenList) (us : Txns) → ((spanned : List Spanned) → AreTokensOf text spanned → list.spanned ≡ spanned) → IsScript text us → read_script (kinds list.spanned) ≡ Ok us
 read_again text list us only d =
-    ap read_script (ap kinds (only d.tokens.0 d.tokens.1) ∙ d.tokens.2) ∙ script_again us (all_names us d.each) (all_low us d.each)
+    ap read_script (ap kinds (only d.tokens.0 d.tokens.1) ∙ d.tokens.2) ∙ script_again us d.names d.nested
 
 pub same_whole : (s t : Txns) → ◌≡◌ {A = Result Txns Stuck} (Ok s) (Ok t) → s ≡ t
 same_whole s t e = cc

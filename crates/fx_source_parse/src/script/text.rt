@@ -4,6 +4,7 @@ ghost use Rattle.fx_grammar.specs.Grammars.{scripts};
 ghost use Rattle.fx_grammar.specs.Refused.{IsRefused};
 ghost use Rattle.fx_grammar.specs.Texts.{IsScript};
 ghost use Rattle.fx_spec.specs.CommandTree.{CommandTree, block, count_block};
+ghost use Rattle.fx_spec.specs.Levels.{txn_levels};
 
 use crate::script::txns::script_of;
 use fx_base::SOURCE_LIMIT;
@@ -20,6 +21,7 @@ pub fn parse(alloc: Global, text: &[u8]) -> Result<Txns, ParseFault>
     ensures ok { IfOk result (λ txns. IsScript text.now txns) }
     ensures only { (ts : List (List CommandTree)) → IsScript text.now ts →
         IfOk result (λ txns. txns ≡ ts) × IfErr result (λ e. e ≡ ParseFault.NoMemory) }
+    ensures nested { IfOk result (All (λ commands. txn_levels commands ≤ 64)) }
     ensures few { IfOk result (All (λ commands. count_block (block commands) ≤ source_limit)) }
     ensures fault { IfErr result (IsRefused scripts text.now) }
 {

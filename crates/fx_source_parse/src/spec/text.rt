@@ -1,8 +1,9 @@
-ghost use Rattle.std.specs.Prelude.{◌≡◌, IfOk, IfErr};
+ghost use Rattle.std.specs.Prelude.{◌≡◌, ◌≤◌, IfOk, IfErr};
 ghost use Rattle.fx_grammar.specs.Refused.{IsRefusedDescription};
 ghost use Rattle.fx_grammar.specs.Texts.{IsDescription};
 ghost use Rattle.fx_parse.specs.Reader.{kinds};
 ghost use Rattle.fx_parse.specs.Stuck.{Gives};
+ghost use Rattle.fx_spec.specs.Levels.{text_levels};
 ghost use Rattle.fx_spec.specs.TextViews.{written};
 ghost use Rattle.fx_spec.specs.Written.{TextTree};
 ghost use Rattle.fx_source_parse.specs.Descriptions.Reader.{read_text, read_whole};
@@ -47,6 +48,7 @@ fn let_go(_: Description) {}
 /// token with which the tokens so far begin no description, or that begins a form of level 65, whichever comes first.
 pub fn parse(alloc: Global, text: &[u8]) -> Result<Description, ParseFault>
     ensures ok { IfOk result (λ d. IsDescription text.now (written d)) }
+    ensures nested { IfOk result (λ d. text_levels (written d) ≤ 64) }
     ensures only { (t : TextTree) → IsDescription text.now t →
         IfOk result (λ d. written d ≡ t) × IfErr result (λ e. e ≡ ParseFault.NoMemory) }
     ensures fault { IfErr result (IsRefusedDescription text.now) }

@@ -1,4 +1,5 @@
 use Rattle.std.proofs.Common.{◌≡◌, ◌∙◌, [], ap, sym, subst}
+use Rattle.std.specs.Prelude.{is_ok}
 use Rattle.fx_expr.specs.Views.{shape_tree}
 use Rattle.fx_spec.specs.TextViews.{written}
 use Rattle.fx_spec.specs.Views.{spec_tree}
@@ -28,7 +29,6 @@ of-requires c =
 pub returns-in_ok-checked-in-Ok : goal.returns-in_ok-checked-in-Ok
 returns-in_ok-checked-in-Ok c =
     let t : TextTree = written c.args.description in
-    let found : AreDefs t.defs [] t.defs × IsWritten t.defs [] t.root × (shape_tree c.in-Ok.shape ≡ written_shape t.root) = text_is t (shape_tree c.in-Ok.shape) c.in-Ok.ensures in
     let settled : TextTree = record { defs = c.in_ok-defs-in-Ok.defs; root = spec_tree c.in_ok-root-in-Ok.root } in
     let same : settled ≡ t = λ i. record { defs = c.in_ok-defs-in-Ok.ensures i; root = c.in_ok-root-in-Ok.ensures i } in
-    (c.in_ok-checked-in-Ok.ensures ∙ ap text_tree same, record { defs = found.0; root = found.1; nested = c.requires })
+    (c.in_ok-checked-in-Ok.ensures ∙ ap text_tree same, ap is_ok c.in-Ok.ensures)

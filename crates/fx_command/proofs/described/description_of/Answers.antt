@@ -17,7 +17,7 @@ pub returns-clause-read : goal.returns-clause-read
 returns-clause-read c = record {
   written = written c.in_ok-description.description;
   read = c.in_ok-description.ensures.ok;
-  shapes = c.in_ok-checked.ensures.1;
+  fits = c.in_ok-checked.ensures.1;
   means = c.in_ok-checked.ensures.0;
 }
 

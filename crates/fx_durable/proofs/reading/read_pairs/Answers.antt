@@ -1,7 +1,7 @@
 use Rattle.std.proofs.Common.{◌<◌, ◌≤◌, ◌+◌, length, Err, refl, sym, ◌∙◌, ap, subst, arith}
 use Rattle.std.proofs.lemmas.List.{take_rest, length-map}
 use Rattle.fx_base.specs.Limits.{txn_limit}
-use Rattle.fx_durable.specs.Journal.{turn_of, turns_of, turn_in, value_of}
+use Rattle.fx_durable.specs.Journal.{turn_of, turns_of, turn_in}
 use Rattle.fx_durable.proofs.Spelling.{IsReadTo, begins, ends, goes_on, is_full, is_cut, turns-push}
 use Rattle.fx_durable.proofs.reading.read_pairs.Goals as goal
 
@@ -30,4 +30,4 @@ records-preserved c =
     subst (λ order. IsReadTo bytes order (c.records.place + 9)) (sym (ap turns_of c.in_ok-push.ensures.ok ∙ turns-push c.records.pairs pair)) (goes_on bytes (turns_of c.records.pairs) c.records.place c.records.invariant (turn_of pair) (sym c.is_open.ensures.open ∙ c.records-test.true) room long is)
 
 pub returns-clause-reads : goal.returns-clause-reads
-returns-clause-reads c = ap value_of (ends c.args.bytes.now (turns_of c.records.pairs) c.records.place c.records.invariant (sym c.is_open.ensures.open ∙ c.records-test.false))
+returns-clause-reads c = ends c.args.bytes.now (turns_of c.records.pairs) c.records.place c.records.invariant (sym c.is_open.ensures.open ∙ c.records-test.false)

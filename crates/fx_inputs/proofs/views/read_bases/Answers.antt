@@ -1,3 +1,4 @@
+use Rattle.std.proofs.Common.{◌≡◌, true}
 use Rattle.fx_base.proofs.Errors.{if_err_of}
 use Rattle.fx_outside.proofs.Views.{reads_then}
 use Rattle.fx_spec.specs.Bases.{base_tree}
@@ -7,7 +8,8 @@ use Rattle.fx_inputs.proofs.Stages.{some_spec, then_told}
 use Rattle.fx_inputs.proofs.ViewsRows.{spec_unread, after_views, some_views, views_row_back, whole_bases}
 use Rattle.fx_outside.specs.Host.{Guard}
 use Rattle.fx_outside.proofs.Views.{asks_both}
-use Rattle.fx_inputs.specs.Views.{LetsViews, ViewsReadRow}
+use Rattle.fx_inputs.specs.Reads.{LetsInputs}
+use Rattle.fx_inputs.specs.Views.{ViewsReadRow}
 use Rattle.fx_inputs.proofs.views.read_bases.Goals as goal
 
 pub returns-in_err-description-clause-ends : goal.returns-in_err-description-clause-ends
@@ -58,16 +60,18 @@ returns-in-Ok-beside-clause-read g c =
 
 pub returns-in-Err-read_rest-clause-fit : goal.returns-in-Err-read_rest-clause-fit
 returns-in-Err-read_rest-clause-fit g c =
-    let Lets : Guard → Type 0 = λ guard. LetsViews guard.may_read (asked_views c.args.job.now) in
+    let j = asked_views c.args.job.now in
+    let Lets : Guard → Type 0 = λ guard. LetsInputs guard.may_read j.inputs × (guard.may_read j.views ≡ true) in
     let a = g.H.Host.view c.args.host.now in
     let b = g.H.Host.view c.read_description.new.host in
     let d = g.H.Host.view c.read_views.new.host in
-    asks_both Lets a b (g.H.Host.view c.read_rest.new.host) (λ lets. c.in_ok-description.ensures.fit lets.inputs.spec) (asks_both Lets b d (g.H.Host.view c.read_rest.new.host) c.in-Ok.ensures.fit (λ lets. c.in-Err-read_rest.ensures.fit lets.inputs))
+    asks_both Lets a b (g.H.Host.view c.read_rest.new.host) (λ lets. c.in_ok-description.ensures.fit lets.0.spec) (asks_both Lets b d (g.H.Host.view c.read_rest.new.host) c.in-Ok.ensures.fit (λ lets. c.in-Err-read_rest.ensures.fit lets.0))
 
 pub returns-in-Ok-beside-clause-fit : goal.returns-in-Ok-beside-clause-fit
 returns-in-Ok-beside-clause-fit g c =
-    let Lets : Guard → Type 0 = λ guard. LetsViews guard.may_read (asked_views c.args.job.now) in
+    let j = asked_views c.args.job.now in
+    let Lets : Guard → Type 0 = λ guard. LetsInputs guard.may_read j.inputs × (guard.may_read j.views ≡ true) in
     let a = g.H.Host.view c.args.host.now in
     let b = g.H.Host.view c.read_description.new.host in
     let d = g.H.Host.view c.read_views.new.host in
-    asks_both Lets a b (g.H.Host.view c.read_rest.new.host) (λ lets. c.in_ok-description.ensures.fit lets.inputs.spec) (asks_both Lets b d (g.H.Host.view c.read_rest.new.host) c.in-Ok.ensures.fit (λ lets. c.in-Ok-read_rest.ensures.fit lets.inputs))
+    asks_both Lets a b (g.H.Host.view c.read_rest.new.host) (λ lets. c.in_ok-description.ensures.fit lets.0.spec) (asks_both Lets b d (g.H.Host.view c.read_rest.new.host) c.in-Ok.ensures.fit (λ lets. c.in-Ok-read_rest.ensures.fit lets.0))

@@ -1,6 +1,7 @@
-use Rattle.std.proofs.Common.{◌≡◌, ℕ, Bool, List, inr, length, IfSome, sym, ap, subst, arith}
+use Rattle.std.proofs.Common.{◌≡◌, ℕ, List, inr, length, IfSome, sym, ap, subst, arith}
 use Rattle.fx_outside.specs.Host.{HostView}
 use Rattle.fx_outside.specs.Path.{parts}
+use Rattle.fx_folder.specs.declared.readying.Out.{Out}
 use Rattle.fx_folder.specs.Folder.{IsReady}
 use Rattle.fx_base.proofs.Errors.{err_of}
 use Rattle.fx_command.specs.declared.status.Status.TheVariants as status
@@ -13,7 +14,7 @@ use Rattle.fx_large_commands.specs.GenRows.{gen_making}
 use Rattle.fx_large_commands.proofs.Naming.{eight_scripts}
 use Rattle.fx_large_commands.proofs.gen_command.write_and_print.Goals as goal
 
-coming : (number : ℕ) (path : List ℕ) (end : Case) (there : Bool) (host : HostView) → end ≡ case_of number → IfSome host.told (λ t. IsReady t path there) → IfSome host.told (λ t. IsComing (gen_making number path) t end there)
+coming : (number : ℕ) (path : List ℕ) (end : Case) (there : Out) (host : HostView) → end ≡ case_of number → IfSome host.told (λ t. IsReady t path there) → IfSome host.told (λ t. IsComing (gen_making number path) t end there)
 coming number path end there host is ready =
     tables.coming (making_only (gen_making number path)) end there host (if_some_map (λ _. Unit {0}) (λ _. end ≡ case_of number) host.told (λ t _. is) (some_unit host.told)) ready
 

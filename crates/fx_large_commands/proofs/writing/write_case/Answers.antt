@@ -1,5 +1,6 @@
-use Rattle.std.proofs.Common.{false, IfSome, sym, subst, arith}
+use Rattle.std.proofs.Common.{IfSome, sym, subst, arith}
 use Rattle.fx_base.proofs.Results.{OnErr-from}
+use Rattle.fx_folder.specs.declared.readying.Out.TheVariants.{Absent}
 use Rattle.fx_folder.specs.Folder.{IsReady}
 use Rattle.fx_folder.proofs.Writes.{opened}
 use Rattle.fx_large_commands.specs.Case.{case_in}
@@ -26,7 +27,7 @@ returns-in_err-inside-clause-part g c =
 
 pub save-requires : goal.save-requires
 save-requires g c = record {
-  ready = subst (λ p. IfSome (g.H.Host.view c.write_texts.new.host).told (λ t. IsReady t p false)) (sym c.in_ok-inside.ensures) (inner_ready (g.H.Host.view c.make_folder.new.host).told (g.H.Host.view c.write_texts.new.host).told c.args.path.now (case_in c.args.case.now) (opened (g.H.Host.view c.args.host.now).told (g.H.Host.view c.make_folder.new.host).told c.args.path.now c.args.there (g.met.H.Host.whole c.args.host.now) c.requires.ready c.in_ok-make_folder.ensures.made) c.in_ok-write_texts.ensures.written);
+  ready = subst (λ p. IfSome (g.H.Host.view c.write_texts.new.host).told (λ t. IsReady t p Absent)) (sym c.in_ok-inside.ensures) (inner_ready (g.H.Host.view c.make_folder.new.host).told (g.H.Host.view c.write_texts.new.host).told c.args.path.now (case_in c.args.case.now) (opened (g.H.Host.view c.args.host.now).told (g.H.Host.view c.make_folder.new.host).told c.args.path.now c.args.there (g.met.H.Host.whole c.args.host.now) c.requires.ready c.in_ok-make_folder.ensures.made) c.in_ok-write_texts.ensures.written);
 }
 
 pub returns-clause-written : goal.returns-clause-written

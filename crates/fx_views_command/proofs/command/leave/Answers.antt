@@ -1,6 +1,5 @@
-use Rattle.std.proofs.Common.{ℕ, List, IfSome, subst, ap, ◌∙◌}
+use Rattle.std.proofs.Common.{ℕ, List, subst, ap, ◌∙◌}
 use Rattle.fx_store.specs.Whole.{Nodes}
-use Rattle.fx_outside.specs.Tree.{Tree}
 use Rattle.fx_folder.specs.Folder.{IsReady}
 use Rattle.fx_board.specs.Board.{last_state}
 use Rattle.fx_words.specs.JobOf.{asked_views}
@@ -33,4 +32,4 @@ returns-clause-row g c =
     (subst (λ b. SaveEnd j.out c.args.there c.store-store.result.now.nodes b host host' sink sink' st) c.as_slice-output.ensures c.save_and_print.ensures.end))
 
 pub returns-clause-fit : goal.returns-clause-fit
-returns-clause-fit g c = λ lets. c.save_and_print.ensures.fit lets.out.written
+returns-clause-fit g c = λ lets. c.save_and_print.ensures.fit lets.0.out.written

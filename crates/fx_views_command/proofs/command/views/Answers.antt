@@ -1,10 +1,11 @@
-use Rattle.std.proofs.Common.{sym, subst, arith}
+use Rattle.std.proofs.Common.{◌≡◌, true, sym, subst, arith}
 use Rattle.fx_outside.specs.Host.{Guard}
 use Rattle.fx_outside.proofs.Views.{reads_then, asks_both}
 use Rattle.fx_spec.specs.Bases.{base_tree}
 use Rattle.fx_words.specs.JobOf.{asked_views}
 use Rattle.fx_views_command.specs.Answers.{last_of_views}
-use Rattle.fx_views_command.specs.Rows.{ViewsRow, LetsViewsRun}
+use Rattle.fx_inputs.specs.Reads.{LetsRun}
+use Rattle.fx_views_command.specs.Rows.{ViewsRow}
 use Rattle.fx_command.specs.StatusOf.{status_of}
 use Rattle.fx_base.proofs.Errors.{err_of}
 use Rattle.fx_views_command.proofs.Ending.{not_read, not_ready, row_back}
@@ -40,8 +41,8 @@ returns-clause-fit g c =
     let b = g.H.Host.view c.read_bases.new.host in
     let d = g.H.Host.view c.ready_out.new.host in
     let e = g.H.Host.view c.leave-ended.new.host in
-    let Lets : Guard → Type 0 = λ guard. LetsViewsRun guard (asked_views c.args.job.now) in
-    asks_both Lets a b e (λ lets. c.in_ok-bases.ensures.fit lets.inputs) (asks_both Lets b d e (λ lets. c.in-Ok.ensures.fit lets.out.ready) c.leave-ended.ensures.fit)
+    let Lets : Guard → Type 0 = λ guard. LetsRun guard (asked_views c.args.job.now).inputs (asked_views c.args.job.now).out × (guard.may_read (asked_views c.args.job.now).views ≡ true) in
+    asks_both Lets a b e (λ lets. c.in_ok-bases.ensures.fit (lets.0.inputs, lets.1)) (asks_both Lets b d e (λ lets. c.in-Ok.ensures.fit lets.0.out.ready) c.leave-ended.ensures.fit)
 
 pub run_bases-requires-clause-few : goal.run_bases-requires-clause-few
 run_bases-requires-clause-few g c = omega (arith, c.in_ok-bases.ensures.count, c.requires.beside)

@@ -1,4 +1,4 @@
-use Rattle.std.proofs.Common.{◌≡◌, false, None, sym, ◌∙◌, rules}
+use Rattle.std.proofs.Common.{◌≡◌, ◌<◌, ◌^◌, false, None, sym, ◌∙◌, arith, rules}
 use Rattle.std.specs.Fmt.{decimal}
 use Rattle.std.specs.Str.{bytes_eq}
 use Rattle.fx_words.proofs.Numbers.{number_is, not_parsed, not_spelled}
@@ -18,4 +18,5 @@ returns-then-ne c =
 pub returns : goal.returns
 returns c =
     let spelled : c.format.result.now ≡ decimal c.in_ok-number.number = c.format.ensures.text in
-    sym (number_is c.args.text.now c.in_ok-number.number (search rules) (search rules))
+    let small : c.in_ok-number.number < 2 ^ 32 = search rules in
+    sym (number_is (2 ^ 32) c.args.text.now c.in_ok-number.number small (omega (arith, small)) (search rules))

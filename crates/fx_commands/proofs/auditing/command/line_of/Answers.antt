@@ -1,12 +1,13 @@
+use Rattle.std.proofs.Common.{◌≡◌, true}
 use Rattle.fx_base.proofs.Errors.{if_err_of}
 use Rattle.fx_spec.specs.Bases.{base_tree}
 use Rattle.fx_inputs.specs.Inputs.{HasBase}
+use Rattle.fx_inputs.specs.Reads.{LetsInputs}
 use Rattle.fx_inputs.proofs.Stages.{then_told}
 use Rattle.fx_words.specs.JobOf.{asked_audit}
 use Rattle.fx_commands.specs.Audits.Rows.{AuditEndsAs}
 use Rattle.fx_commands.proofs.Audits.Auditing.{audit_ends_before, auditing_before, not_read}
 use Rattle.fx_outside.proofs.Views.{asks_both}
-use Rattle.fx_commands.specs.Audits.Rows.{LetsAudit}
 use Rattle.fx_commands.proofs.auditing.command.line_of.Goals as goal
 
 pub returns-in_err-base-clause-ends : goal.returns-in_err-base-clause-ends
@@ -32,8 +33,9 @@ returns-clause-ends g c =
 
 pub returns-clause-fit : goal.returns-clause-fit
 returns-clause-fit g c =
-    asks_both (λ guard. LetsAudit guard.may_read (asked_audit c.args.job.now)) (g.H.Host.view c.args.host.now) (g.H.Host.view c.read_base.new.host) (g.H.Host.view c.line_by.new.host)
-    (λ lets. c.in_ok-base.ensures.fit lets.inputs) c.line_by.ensures.fit
+    let j = asked_audit c.args.job.now in
+    asks_both (λ guard. LetsInputs guard.may_read j.inputs × (guard.may_read j.report ≡ true)) (g.H.Host.view c.args.host.now) (g.H.Host.view c.read_base.new.host) (g.H.Host.view c.line_by.new.host)
+    (λ lets. c.in_ok-base.ensures.fit lets.0) c.line_by.ensures.fit
 
 pub returns-in_err-base-clause-fit : goal.returns-in_err-base-clause-fit
-returns-in_err-base-clause-fit g c = λ lets. c.in_err-base.ensures.fit lets.inputs
+returns-in_err-base-clause-fit g c = λ lets. c.in_err-base.ensures.fit lets.0

@@ -1,5 +1,4 @@
 use Rattle.std.proofs.Common.{inl, refl, sym, subst}
-use Rattle.fx_outside.specs.Host.{HostView}
 use Rattle.fx_spec.specs.Bases.{base_tree}
 use Rattle.fx_words.specs.JobOf.{asked_recover}
 use Rattle.fx_command.specs.StatusOf.{status_of}
@@ -7,7 +6,8 @@ use Rattle.fx_durable.proofs.Choices.{unasked}
 use Rattle.fx_base.proofs.Errors.{err_of}
 use Rattle.fx_inputs.specs.Inputs.{HasBase, IsOnlyBase}
 use Rattle.fx_inputs.proofs.Stages.{then_told}
-use Rattle.fx_commands.specs.Recoveries.Rows.{RecoverEnd, LetsRecover}
+use Rattle.fx_inputs.specs.Reads.{LetsRun}
+use Rattle.fx_commands.specs.Recoveries.Rows.{RecoverEnd}
 use Rattle.fx_commands.proofs.Recoveries.Ending.{not_read, end_back}
 use Rattle.fx_outside.proofs.Views.{asks_both}
 use Rattle.fx_commands.proofs.recovering.command.recover.Goals as goal
@@ -46,5 +46,5 @@ returns-clause-row g c =
 
 pub returns-clause-fit : goal.returns-clause-fit
 returns-clause-fit g c =
-    asks_both (λ guard. LetsRecover guard (asked_recover c.args.job.now)) (g.H.Host.view c.args.host.now) (g.H.Host.view c.read_base.new.host) (g.H.Host.view c.restore-ended.new.host)
+    asks_both (λ guard. LetsRun guard (asked_recover c.args.job.now).inputs (asked_recover c.args.job.now).out) (g.H.Host.view c.args.host.now) (g.H.Host.view c.read_base.new.host) (g.H.Host.view c.restore-ended.new.host)
     (λ lets. c.in_ok-base.ensures.fit lets.inputs) (λ lets. c.restore-ended.ensures.fit lets.out)

@@ -1,7 +1,8 @@
 use Rattle.fx_outside.proofs.Views.{asks_both}
 use Rattle.fx_base.proofs.Errors.{if_err_of}
 use Rattle.fx_words.specs.JobOf.{asked_show}
-use Rattle.fx_commands.specs.Shows.Rows.{LetsShow, ShowEndsAs}
+use Rattle.fx_inputs.specs.Reads.{LetsInputs}
+use Rattle.fx_commands.specs.Shows.Rows.{ShowEndsAs}
 use Rattle.fx_commands.proofs.Shows.Showing.{not_described, showing_before, show_ends_before}
 use Rattle.fx_commands.proofs.showing.command.output_of.Goals as goal
 
@@ -23,4 +24,4 @@ returns-clause-ends g c =
 
 pub returns-clause-fit : goal.returns-clause-fit
 returns-clause-fit g c =
-    asks_both (λ guard. LetsShow guard.may_read (asked_show c.args.job.now)) (g.H.Host.view c.args.host.now) (g.H.Host.view c.read_description.new.host) (g.H.Host.view c.output_by-output.new.host) (λ lets. c.in_ok-spec.ensures.fit lets.spec) c.output_by-output.ensures.fit
+    asks_both (λ guard. LetsInputs guard.may_read (asked_show c.args.job.now)) (g.H.Host.view c.args.host.now) (g.H.Host.view c.read_description.new.host) (g.H.Host.view c.output_by-output.new.host) (λ lets. c.in_ok-spec.ensures.fit lets.spec) c.output_by-output.ensures.fit

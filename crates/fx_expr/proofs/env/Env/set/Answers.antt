@@ -1,5 +1,5 @@
 use Rattle.std.proofs.Common.{sym, ap}
-use Rattle.fx_expr.specs.Bindings.{or_same}
+use Rattle.std.specs.Option.{unwrap_or}
 use Rattle.fx_expr.specs.Views.{tree_of}
 use Rattle.fx_expr.proofs.Bound.{assigned_none, value_set}
 use Rattle.fx_expr.proofs.env.Env.set.Goals as goal
@@ -13,4 +13,4 @@ pub returns-in-None : goal.returns-in-None
 returns-in-None c =
     let vars = c.args.self.now in
     let none = rw (c.as_slice.ensures.value, c.self.view_is) at c.in-None.ensures.place in
-    sym (ap (or_same vars) (assigned_none c.args.word.now (tree_of c.args.value) vars none))
+    sym (ap (λ o. unwrap_or o vars) (assigned_none c.args.word.now (tree_of c.args.value) vars none))

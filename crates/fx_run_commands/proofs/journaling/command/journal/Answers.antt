@@ -1,4 +1,4 @@
-use Rattle.std.proofs.Common.{refl, sym, subst}
+use Rattle.std.proofs.Common.{sym, subst}
 use Rattle.fx_outside.proofs.Views.{reads_then}
 use Rattle.fx_spec.specs.Bases.{base_tree}
 use Rattle.fx_words.specs.JobOf.{asked, asked_journal}
@@ -13,7 +13,7 @@ use Rattle.fx_run_commands.proofs.Journals.Ending.{inputs_unread, out_unready, e
 use Rattle.fx_run_commands.proofs.Journals.Keeping.{keeps_back, unbegun_keeps}
 use Rattle.fx_outside.specs.Host.{Guard}
 use Rattle.fx_outside.proofs.Views.{asks_both}
-use Rattle.fx_run_commands.specs.Runs.Rows.{LetsRun}
+use Rattle.fx_inputs.specs.Reads.{LetsRun}
 use Rattle.fx_run_commands.proofs.journaling.command.journal.Goals as goal
 
 pub returns-in_err-base-clause-row : goal.returns-in_err-base-clause-row
@@ -75,5 +75,5 @@ returns-clause-fit g c =
     let b = g.H.Host.view c.read_base.new.host in
     let d = g.H.Host.view c.ready_out.new.host in
     let e = g.H.Host.view c.keep.new.host in
-    let Lets : Guard → Type 0 = λ guard. LetsRun guard (asked c.args.job.now.run) in
+    let Lets : Guard → Type 0 = λ guard. LetsRun guard (asked c.args.job.now.run).inputs (asked c.args.job.now.run).out in
     asks_both Lets a b e (λ lets. c.in_ok-base.ensures.fit lets.inputs) (asks_both Lets b d e (λ lets. c.in-Ok.ensures.fit lets.out.ready) (λ lets. c.keep.ensures.fit lets.out.written))

@@ -6,7 +6,8 @@ use Rattle.fx_command.specs.Table.{CommandEndsAs}
 use Rattle.fx_command.proofs.Told.{some_back}
 use Rattle.fx_base.proofs.Errors.{if_err_of}
 use Rattle.fx_inputs.proofs.Stages.{inputs_read}
-use Rattle.fx_run_commands.specs.Runs.Rows.{run_command, LetsRun}
+use Rattle.fx_inputs.specs.Reads.{LetsRun}
+use Rattle.fx_run_commands.specs.Runs.Rows.{run_command}
 use Rattle.fx_run_commands.proofs.Runs.Ending.{not_read, not_ready}
 use Rattle.fx_run_commands.proofs.running.command.begin.Goals as goal
 
@@ -38,10 +39,10 @@ returns-in_err-base-clause-fit g c = λ lets. c.in_err-base.ensures.fit lets.inp
 
 pub returns-in-Err-clause-fit : goal.returns-in-Err-clause-fit
 returns-in-Err-clause-fit g c =
-    asks_both (λ guard. LetsRun guard (asked c.args.job.now)) (g.H.Host.view c.args.host.now) (g.H.Host.view c.read_base.new.host) (g.H.Host.view c.ready_out.new.host)
+    asks_both (λ guard. LetsRun guard (asked c.args.job.now).inputs (asked c.args.job.now).out) (g.H.Host.view c.args.host.now) (g.H.Host.view c.read_base.new.host) (g.H.Host.view c.ready_out.new.host)
     (λ lets. c.in_ok-base.ensures.fit lets.inputs) (λ lets. c.in-Err.ensures.fit lets.out.ready)
 
 pub returns-in-Ok-clause-fit : goal.returns-in-Ok-clause-fit
 returns-in-Ok-clause-fit g c =
-    asks_both (λ guard. LetsRun guard (asked c.args.job.now)) (g.H.Host.view c.args.host.now) (g.H.Host.view c.read_base.new.host) (g.H.Host.view c.ready_out.new.host)
+    asks_both (λ guard. LetsRun guard (asked c.args.job.now).inputs (asked c.args.job.now).out) (g.H.Host.view c.args.host.now) (g.H.Host.view c.read_base.new.host) (g.H.Host.view c.ready_out.new.host)
     (λ lets. c.in_ok-base.ensures.fit lets.inputs) (λ lets. c.in-Ok.ensures.fit lets.out.ready)

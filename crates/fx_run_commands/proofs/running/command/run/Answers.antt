@@ -5,7 +5,8 @@ use Rattle.fx_command.specs.StatusOf.{status_of}
 use Rattle.fx_base.proofs.Errors.{err_of}
 use Rattle.fx_words.specs.JobOf.{asked}
 use Rattle.fx_run_commands.specs.Runs.Answers.{last_of, IsRunFrom}
-use Rattle.fx_run_commands.specs.Runs.Rows.{RunRow, LetsRun}
+use Rattle.fx_inputs.specs.Reads.{LetsRun}
+use Rattle.fx_run_commands.specs.Runs.Rows.{RunRow}
 use Rattle.fx_run_commands.proofs.Runs.Ending.{no_memory, row_back}
 use Rattle.fx_run_commands.proofs.Runs.Stages.{can_leave}
 use Rattle.fx_outside.proofs.Views.{asks_both}
@@ -44,5 +45,5 @@ returns-clause-row g c =
 
 pub returns-clause-fit : goal.returns-clause-fit
 returns-clause-fit g c =
-    asks_both (λ guard. LetsRun guard (asked c.args.job.now)) (g.H.Host.view c.args.host.now) (g.H.Host.view c.begin.new.host) (g.H.Host.view c.leave-ended.new.host)
+    asks_both (λ guard. LetsRun guard (asked c.args.job.now).inputs (asked c.args.job.now).out) (g.H.Host.view c.args.host.now) (g.H.Host.view c.begin.new.host) (g.H.Host.view c.leave-ended.new.host)
     c.in_ok-base.ensures.fit c.leave-ended.ensures.fit

@@ -6,9 +6,10 @@ use Rattle.fx_parse.specs.Reader.{kinds}
 use Rattle.fx_parse.specs.Stuck.{Stops}
 use Rattle.fx_grammar.specs.Grammars.{scripts}
 use Rattle.fx_grammar.specs.Refused.{IsRefused}
+use Rattle.fx_grammar.specs.Texts.{IsScript}
 use Rattle.fx_grammar.proofs.Unlexed.{unlexed}
 use Rattle.fx_source_parse.specs.Scripts.Reader.{read_script}
-use Rattle.fx_source_parse.proofs.Scripts.Texts.{scripted, refused, read_again, same_whole, stop_only, few_commands}
+use Rattle.fx_source_parse.proofs.Scripts.Texts.{scripted, refused, all_nested, read_again, same_whole, stop_only, few_commands}
 use Rattle.fx_source_parse.proofs.script.text.parse.Goals as goal
 
 pub returns-in_err-tokens-clause-only : goal.returns-in_err-tokens-clause-only
@@ -25,10 +26,16 @@ returns-in_err-tokens-clause-fault c =
 read_ok : (c : goal.After-drop-tokens-inside) → read_script (kinds c.in_ok-tokens.tokens.spanned) ≡ Ok c.in-Ok.txns
 read_ok c = ap (λ l. read_script (kinds l)) (sym c.as_slice.ensures.value) ∙ c.in-Ok.ensures
 
-pub returns-in-Ok-clause-ok : goal.returns-in-Ok-clause-ok
-returns-in-Ok-clause-ok c =
+found : (c : goal.After-drop-tokens-inside) → IsScript c.args.text.now c.in-Ok.txns
+found c =
     let short : length c.args.text.now ≤ source_limit = omega (arith, c.if-text-gt-SOURCE_LIMIT.false) in
     scripted c.args.text.now c.in_ok-tokens.tokens short c.in_ok-tokens.ensures.tokens c.in-Ok.txns (read_ok c)
+
+pub returns-in-Ok-clause-ok : goal.returns-in-Ok-clause-ok
+returns-in-Ok-clause-ok c = found c
+
+pub returns-in-Ok-clause-nested : goal.returns-in-Ok-clause-nested
+returns-in-Ok-clause-nested c = all_nested c.in-Ok.txns (found c).nested
 
 pub returns-in-Ok-clause-few : goal.returns-in-Ok-clause-few
 returns-in-Ok-clause-few c =

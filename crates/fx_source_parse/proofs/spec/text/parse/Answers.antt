@@ -10,9 +10,10 @@ use Rattle.fx_parse.specs.Stuck.{Stops}
 use Rattle.fx_spec.specs.TextViews.{written}
 use Rattle.fx_grammar.specs.Grammars.{descriptions}
 use Rattle.fx_grammar.specs.Refused.{IsRefusedDescription}
+use Rattle.fx_grammar.specs.Texts.{IsDescription}
 use Rattle.fx_grammar.proofs.Unlexed.{unlexed_as}
 use Rattle.fx_source_parse.specs.Descriptions.Reader.{read_whole}
-use Rattle.fx_source_parse.proofs.Descriptions.Texts.{keeping, described, refused, read_again, same_whole, stop_only}
+use Rattle.fx_source_parse.proofs.Descriptions.Texts.{keeping, described, refused, text_nested, read_again, same_whole, stop_only}
 use Rattle.fx_source_parse.proofs.spec.text.parse.Goals as goal
 
 pub returns-in_err-tokens-clause-only : goal.returns-in_err-tokens-clause-only
@@ -30,10 +31,16 @@ read_ok : (c : goal.After-drop-tokens-inside) → read_whole (kinds (map kept_at
 read_ok c =
     ap (λ l. read_whole (kinds l)) (sym (c.as_slice.ensures.value ∙ ap (λ t. t.spanned) c.keep_def.ensures)) ∙ c.in-Ok.ensures
 
-pub returns-in-Ok-clause-ok : goal.returns-in-Ok-clause-ok
-returns-in-Ok-clause-ok c =
+found : (c : goal.After-drop-tokens-inside) → IsDescription c.args.text.now (written c.in-Ok.description)
+found c =
     let short : length c.args.text.now ≤ source_limit = omega (arith, c.if-text-gt-SOURCE_LIMIT.false) in
     described c.args.text.now c.in_ok-tokens.tokens.spanned short c.in_ok-tokens.ensures.tokens (written c.in-Ok.description) (read_ok c)
+
+pub returns-in-Ok-clause-ok : goal.returns-in-Ok-clause-ok
+returns-in-Ok-clause-ok c = found c
+
+pub returns-in-Ok-clause-nested : goal.returns-in-Ok-clause-nested
+returns-in-Ok-clause-nested c = text_nested c.args.text.now (written c.in-Ok.description) (found c)
 
 pub returns-in-Ok-clause-only : goal.returns-in-Ok-clause-only
 returns-in-Ok-clause-only c = λ t d.

@@ -1,6 +1,6 @@
-use Rattle.std.proofs.Common.{◌+◌, ◌-◌, length}
-use Rattle.fx_command.proofs.Pieces.{IsReading}
-use Rattle.fx_command.proofs.texts.read_text.Given as goal
+use Rattle.fx_folder.proofs.Prelude.{◌+◌, ◌-◌, length}
+use Rattle.fx_folder.proofs.Reading.{IsReading}
+use Rattle.fx_folder.proofs.pieces.read_whole.Given as goal
 
 abbrev pub invariant-reading : goal.invariant-reading
 invariant-reading g l = IsReading (g.H.Host.view l.initial.host) (g.H.Host.view l.host) l.path l.text.items
