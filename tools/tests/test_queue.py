@@ -145,6 +145,22 @@ class Waits(unittest.TestCase):
         one.remove()
         two.remove()
 
+    def test_an_answer_for_a_caller_that_has_gone_is_passed_over(self) -> None:
+        asked = request(JOB % "x")
+        gone = left(self.tree, asked)
+        with queue_of(self.tree) or self.fail() as queue:
+            job = take(queue, asked, "", 9, 9)[0]
+            gone.remove()
+            job.give(Answer(1, b"r"))
+            job.put_back()
+            job.close()
+        self.assertEqual(os.listdir(self.top), ["f"])
+
+    def test_an_empty_queue_goes_with_the_next_who_has_the_lock(self) -> None:
+        os.mkdir(f"{self.top}/f.queue", 0o700)
+        self.assertEqual(self.taken(request(JOB % "x")), [])
+        self.assertEqual(os.listdir(self.top), ["f"])
+
     def test_killed_callers_are_cleared(self) -> None:
         asked = request(JOB % "x")
         gone, lives = left(self.tree, asked), left(self.tree, asked)

@@ -246,6 +246,13 @@ class Queue:
     def __exit__(self, *_: object) -> None:
         self.close()
 
+    def remove_empty(self) -> None:
+        """Removes it if nobody waits there."""
+        try:
+            calls.S.rmdir(self.name, self.above)
+        except OSError:
+            pass  # others wait there
+
     def names(self) -> list[bytes]:
         """The jobs that stand in it, in the order in which they came."""
         return sorted(name for name in map(os.fsencode, os.listdir(self.fd)) if is_ident(name))
@@ -327,9 +334,9 @@ class Waiting:
         """Removes it, and lets its lock go. What can't be removed stays, and waits for nobody."""
         try:
             clear(self.queue.fd, self.name)
-            calls.S.rmdir(self.queue.name, self.queue.above)
         except OSError:
-            pass  # others wait there
+            pass
+        self.queue.remove_empty()
         calls.S.close(self.fd)
         self.queue.close()
 
@@ -405,10 +412,15 @@ class Taken:
 
 
 def given(folder: int, text: bytes) -> None:
-    """Gives a job its answer, unless it has one: the first one counts."""
-    if not stands(folder, ANSWER):
+    """Gives a job its answer, unless it has one: the first one counts. A caller that was ended may
+    have taken its directory away meanwhile: then nobody waits for the answer."""
+    if stands(folder, ANSWER):
+        return
+    try:
         written(folder, FRESH, text)
-        renamed(folder, FRESH, ANSWER)
+    except FileNotFoundError:
+        return
+    renamed(folder, FRESH, ANSWER)
 
 
 def take(queue: Queue, request: Request, own: str, shells: int, transactions: int) -> list[Taken]:
@@ -428,6 +440,8 @@ def take(queue: Queue, request: Request, own: str, shells: int, transactions: in
         shells -= len(job.request.scripts)
         transactions -= job.request.transactions
     remove_stale(queue)
+    if not found:
+        queue.remove_empty()  # who was there last was killed before it could
     return found
 
 
