@@ -17,5 +17,8 @@ returns c = record {
   levels = refl;
   report = refl;
   report_word = refl;
+  nodes = refl;
+  bytes = refl;
+  table = refl;
   views_word = refl;
 }
