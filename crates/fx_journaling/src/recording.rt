@@ -8,7 +8,6 @@ use crate::fault::RecordFault;
 use crate::recorder::{Origin, Recorder};
 use fx_board::{Board, Retries};
 use fx_durable::{Disk, Journal};
-use fx_machine::let_go;
 use fx_outside::Sink;
 use fx_sched::{Ended, play};
 use fx_spec::Base;
@@ -20,15 +19,6 @@ use std::sync::Arc;
 pub struct Recorded {
     pub board: Board,
     pub retries: Retries,
-}
-
-impl Recorded {
-    /// Lets go of the run.
-    pub fn let_go(self) {
-        let Recorded { board, retries } = self;
-        board.let_go();
-        let_go(retries);
-    }
 }
 
 /// Why a run has ended.

@@ -22,8 +22,5 @@ pub struct View {
 /// Views, in the order in which they looked.
 pub type Viewed = Listed<View>;
 
-/// Lets go of views.
-pub fn let_go(_: Viewed) {}
-
 /// The entries of a run, in their order.
 pub type PrintedEntries = Listed<PrintedEntry>;

@@ -18,15 +18,6 @@ pub struct Traced {
     pub events: Events,
 }
 
-impl Traced {
-    /// The log alone.
-    pub fn into_board(self) -> Board
-        ensures { result ≡ self.board }
-    {
-        self.board
-    }
-}
-
 /// Keeps the events of a run, in order.
 #[derive(Drop)]
 struct Listing {

@@ -1,4 +1,4 @@
-//! The command `views`, stage by stage.
+//! The command `views`, stage by stage. It leaves its log where it is, as `run` does.
 ghost use Rattle.std.specs.Prelude.{IfSome};
 ghost use Rattle.fx_words.specs.JobOf.{asked_views, IsViewsJob};
 ghost use Rattle.fx_command.specs.StatusOf.{status_of};
@@ -13,6 +13,7 @@ use fx_inputs::read_bases;
 use fx_outside::{Gate, Host, Sink};
 use fx_words::ViewsJob;
 use std::alloc::Global;
+use std::mem;
 use std::sync::Wait;
 use std::thread::Threads;
 
@@ -61,6 +62,6 @@ pub fn views<R: Threads + Wait + Sync, H: Host, S: Sink, G: Gate + Sync>(
     };
     let answer = run_bases(rt, alloc, bases, gate)?;
     let ended = leave(alloc, job, there, &answer, host, out);
-    answer.let_go();
+    mem::forget(answer.log);
     ended
 }

@@ -12,11 +12,12 @@ use fx_base::NoMemory;
 use fx_board::Board;
 use fx_inputs::Bases;
 use fx_outside::Gate;
-use fx_report::{Retries, Viewed, report, views_text};
+use fx_report::{Retries, Viewed, report_beside, views_text};
 use fx_shared::Versioned;
 use fx_store::LongText;
 use fx_views::run_views;
 use std::alloc::Global;
+use std::mem;
 use std::sync::Wait;
 use std::thread::Threads;
 
@@ -26,16 +27,9 @@ pub(crate) struct Answer {
     pub output: LongText,
 }
 
-impl Answer {
-    /// Lets go of the run.
-    pub(crate) fn let_go(self) {
-        let Answer { log, output: _ } = self;
-        log.let_go();
-    }
-}
-
 /// What is printed: the report of the run, and then the views.
-fn printed(
+fn printed<R: Threads + Wait + Sync>(
+    rt: &R,
     alloc: Global,
     board: &Board,
     retries: &Retries,
@@ -44,7 +38,7 @@ fn printed(
     ensures { IfOk result (λ text. text
         ≡ whole.report board.now.base board.now.order retries.now ++ lines.views_text viewed.now) }
 {
-    let report = report(alloc, board, retries)?;
+    let report = report_beside(rt, alloc, board, retries)?;
     let views = views_text(alloc, viewed)?;
     let mut bytes = report.into_vec();
     bytes.extend_from_slice(views.as_slice())?;
@@ -65,9 +59,9 @@ pub(crate) fn run_bases<R: Threads + Wait + Sync, G: Gate + Sync>(
 {
     let Bases { scripts, views } = bases;
     let (log, retries, viewed) = run_views(rt, alloc, scripts, views, gate)?;
-    let output = printed(alloc, log.board(), &retries, &viewed);
-    fx_machine::let_go(retries);
-    fx_report::let_go(viewed);
+    let output = printed(rt, alloc, log.board(), &retries, &viewed);
+    mem::forget(retries);
+    mem::forget(viewed);
     match output {
         Ok(output) => Ok(Answer { log, output }),
         Err(fault) => {

@@ -1,4 +1,4 @@
-//! The command `journal`, stage by stage.
+//! The command `journal`, stage by stage. It leaves its log where it is, as `run` does.
 ghost use Rattle.std.specs.Prelude.{◌≡◌, true, IfOk, IfErr, OnOk, OnErr, IfSome};
 ghost use Rattle.fx_outside.specs.Host.{WritesIn};
 ghost use Rattle.fx_folder.specs.Folder.{IsReady};
@@ -24,6 +24,7 @@ use fx_report::report;
 use fx_spec::Base;
 use fx_words::{JournalJob, RunJob};
 use std::alloc::Global;
+use std::mem;
 use std::sync::Arc;
 use std::thread::Threads;
 
@@ -131,7 +132,9 @@ fn keep<H: Host, S: Sink, D: Disk>(
     };
     let recorded = run_on(alloc, &job.run, base, journal, disk, out)?;
     let ended = finish(alloc, job.run.out, there, &recorded, host, out);
-    recorded.let_go();
+    let Recorded { board, retries } = recorded;
+    mem::forget(board);
+    mem::forget(retries);
     ended
 }
 

@@ -1,5 +1,8 @@
 //! The command `run`, which runs its scripts on threads, and `trace`, which runs them by a schedule, and as `watch` tells
 //! besides whether the tree has a value.
+//!
+//! Each leaves its log where it is. A command ends the process, whose memory then goes back all at once; to let go of each part
+//! of a long log takes as long as to print it.
 ghost use Rattle.std.specs.Prelude.{◌≡◌, IfOk, IfErr, IfSome};
 ghost use Rattle.fx_outside.specs.Host.{ReadsOnly};
 ghost use Rattle.fx_folder.specs.Folder.{IsReady};
@@ -20,6 +23,7 @@ use fx_outside::{Gate, Host, Sink};
 use fx_spec::Base;
 use fx_words::RunJob;
 use std::alloc::Global;
+use std::mem;
 use std::sync::{Arc, Wait};
 use std::thread::Threads;
 
@@ -91,7 +95,7 @@ pub fn run<R: Threads + Wait + Sync, H: Host, S: Sink, G: Gate + Sync>(
     let (base, there) = begin(rt, alloc, job, host)?;
     let answer = run_base(rt, alloc, base, gate)?;
     let ended = leave(alloc, job, there, &answer, host, out);
-    answer.let_go();
+    mem::forget(answer.board);
     ended
 }
 
@@ -113,6 +117,6 @@ pub fn trace<R: Threads, H: Host, S: Sink>(
     let (base, there) = begin(rt, alloc, job, host)?;
     let answer = trace_base(alloc, job, base)?;
     let ended = leave(alloc, job, there, &answer, host, out);
-    answer.let_go();
+    mem::forget(answer.board);
     ended
 }

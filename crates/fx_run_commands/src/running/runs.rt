@@ -8,9 +8,8 @@ ghost use Rattle.fx_inputs.specs.Inputs.{HasEachScript};
 
 use fx_base::NoMemory;
 use fx_board::Board;
-use fx_machine::let_go;
 use fx_outside::Gate;
-use fx_report::{event_lines, report};
+use fx_report::{event_lines, report, report_beside};
 use fx_sched::{Traced, run_schedule};
 use fx_spec::Base;
 use fx_store::LongText;
@@ -18,6 +17,7 @@ use fx_watch::run_watched;
 use fx_words::{RunJob, RunMode};
 use fx_workers::run_all;
 use std::alloc::Global;
+use std::mem;
 use std::sync::{Arc, Wait};
 use std::thread::Threads;
 
@@ -25,14 +25,6 @@ use std::thread::Threads;
 pub(crate) struct Answer {
     pub board: Board,
     pub output: LongText,
-}
-
-impl Answer {
-    /// Lets go of the run.
-    pub(crate) fn let_go(self) {
-        let Answer { board, output: _ } = self;
-        board.let_go();
-    }
 }
 
 /// Two texts, one after the other.
@@ -54,8 +46,8 @@ pub(crate) fn run_base<R: Threads + Wait + Sync, G: Gate + Sync>(
     ensures { IfOk result (λ a. IsRunFrom (base_tree base.value) Plain (last_of a) a.output) }
 {
     let (board, retries) = run_all(rt, alloc, base, gate)?;
-    let output = report(alloc, &board, &retries);
-    let_go(retries);
+    let output = report_beside(rt, alloc, &board, &retries);
+    mem::forget(retries);
     match output {
         Ok(output) => Ok(Answer { board, output }),
         Err(fault) => {
@@ -74,6 +66,20 @@ fn traced_output(alloc: Global, traced: &Traced) -> Result<LongText, NoMemory>
     joined(events, &report)
 }
 
+/// The log of a traced run. The rest is left where it is, as the command leaves the log.
+fn board_of(traced: Traced) -> Board
+    ensures { result ≡ traced.board }
+{
+    let Traced {
+        board,
+        retries,
+        events,
+    } = traced;
+    mem::forget(retries);
+    mem::forget(events);
+    board
+}
+
 /// Runs all scripts on one thread, by a schedule of shells.
 fn run_by(alloc: Global, base: Arc<Base>, schedule: &[u32]) -> Result<Answer, NoMemory>
     requires { All (λ k. k < length base.value.plan) schedule.now }
@@ -82,7 +88,7 @@ fn run_by(alloc: Global, base: Arc<Base>, schedule: &[u32]) -> Result<Answer, No
 {
     let traced = run_schedule(alloc, base, schedule)?;
     let output = traced_output(alloc, &traced);
-    let board = traced.into_board();
+    let board = board_of(traced);
     match output {
         Ok(output) => Ok(Answer { board, output }),
         Err(fault) => {
