@@ -1,8 +1,7 @@
--- The entries of a log are those of its order; and texts that tell some of them.
-use Rattle.std.proofs.Common.{◌≡◌, ℕ, zero, suc, ◌+◌, List, [], ◌∷◌, ◌++◌, Some, length, refl, sym, ap, ◌∙◌, arith, append_assoc, append-nil}
+-- The entries of a log are those of its order.
+use Rattle.std.proofs.Common.{◌≡◌, ℕ, zero, suc, ◌+◌, List, [], ◌∷◌, Some, length, refl, ap, ◌∙◌, arith}
 use Rattle.std.specs.List.{slice_get}
 use Rattle.std.specs.FinMap.{get}
-use Rattle.std.proofs.lemmas.List.{drop_all}
 use Rattle.fx_spec.specs.Plans.{Turn, txn_of}
 use Rattle.fx_spec.specs.Order.{BaseTree, state}
 use Rattle.fx_spec.specs.Transaction.{outputs, end}
@@ -11,8 +10,6 @@ use Rattle.fx_board.specs.Log.{Log}
 use Rattle.fx_board.specs.Board.{IsEntry, entry_turn}
 use Rattle.fx_report.specs.declared.printed.PrintedEntry.{PrintedEntry}
 use Rattle.fx_report.specs.Entries.{printed, entry, entries_from, entries_of, commands_or_none}
-use Rattle.fx_report.specs.Pieces.{lines_from, Tells}
-use Rattle.fx_report.specs.Report.{entries_text}
 
 from_there : (base : BaseTree) (o : List Turn) (k i : ℕ) (turns : List Turn) (turn : Turn) → slice_get turns i ≡ Some turn → slice_get (entries_from base o k turns) i ≡ Some (entry base o (k + i) turn)
 from_there base o k i [] turn e = cc
@@ -47,16 +44,3 @@ entry_there log i e is =
 pub entries_of_length : (base : BaseTree) (o : List Turn) → length (entries_of base o) ≡ length o
 unfolding entries_of
 entries_of_length base o = entries_length base o 0 o
-
--- what tells all entries of a log
-pub tells_all : (log : Log) (old new : List ℕ) → Tells log 0 (length log.order) old new → new ≡ old ++ entries_text 0 (entries_of log.base log.order)
-tells_all log old new told =
-    let es = entries_of log.base log.order in
-    let none : lines_from log (length log.order) ≡ [] =
-        ap (entries_text (length log.order)) (drop_all (length log.order) es (omega (arith, entries_of_length log.base log.order))) in
-    sym (append-nil new) ∙ (ap (λ t. new ++ t) (sym none) ∙ told)
-
--- two pieces, one after the other
-pub tells_on : (log : Log) (from middle upto : ℕ) (old front back : List ℕ) → Tells log from middle old front → Tells log middle upto [] back → Tells log from upto old (front ++ back)
-tells_on log from middle upto old front back first second =
-    append_assoc front back (lines_from log upto) ∙ (ap (λ t. front ++ t) second ∙ first)

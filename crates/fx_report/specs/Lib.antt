@@ -4,4 +4,3 @@ pub mod Report
 pub mod Views
 pub mod Entries
 pub mod Events
-pub mod Pieces

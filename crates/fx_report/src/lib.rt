@@ -1,14 +1,12 @@
 //! The printed forms: values, events, the report of a run, and views.
 #![tactic(auto)]
 
-mod beside;
 mod lines;
 mod printed;
 mod quotes;
 mod values;
 mod views;
 
-pub use beside::report_beside;
 pub use fx_board::{Retries, Retry};
 pub use lines::{
     add_entry_words, add_field, add_print_words, add_retry_words, event_lines, printed_report,

@@ -1,9 +1,8 @@
-ghost use Rattle.std.specs.Prelude.{◌≡◌, ◌++◌, ◌≤◌, OnOk, IfOk, codes, length};
+ghost use Rattle.std.specs.Prelude.{◌≡◌, ◌++◌, OnOk, IfOk, codes, length};
 ghost use Rattle.std.specs.List.{flat_map};
 ghost use Rattle.fx_expr.specs.Views.{tree_of};
 ghost use Rattle.fx_report.specs.Entries as whole;
 ghost use Rattle.fx_report.specs.Events as told;
-ghost use Rattle.fx_report.specs.Pieces.{Tells};
 ghost use Rattle.fx_report.specs.Report as report;
 
 use crate::printed::{PrintedEntries, PrintedEntry};
@@ -168,18 +167,11 @@ fn add_settled(out: &mut Vec<u8>, number: u64, entry: &Entry) -> Result<(), NoMe
     add_print_lines(out, &entry.outputs)
 }
 
-/// Adds the lines of the entries from one number up to another.
-pub(crate) fn add_log(
-    out: &mut Vec<u8>,
-    board: &Board,
-    from: u64,
-    upto: u64,
-) -> Result<(), NoMemory>
-    requires order { from ≤ upto }
-    requires inside { upto ≤ length board.now.order }
-    ensures { OnOk result (Tells board.now from upto out.old.items out.new.items) }
+fn add_log(out: &mut Vec<u8>, board: &Board) -> Result<(), NoMemory>
+    ensures { OnOk result (out.new.items ≡ out.old.items
+        ++ report.entries_text 0 (whole.entries_of board.now.base board.now.order)) }
 {
-    for i in from..upto {
+    for i in 0..board.len() {
         if let Some(entry) = board.entry(i) {
             add_settled(out, i, entry)?;
         }
@@ -227,7 +219,7 @@ fn add_retries(out: &mut Vec<u8>, retries: &Retries) -> Result<(), NoMemory>
 }
 
 /// Adds what a report begins with.
-pub(crate) fn add_head(out: &mut Vec<u8>, entries: u64) -> Result<(), NoMemory>
+fn add_head(out: &mut Vec<u8>, entries: u64) -> Result<(), NoMemory>
     ensures { OnOk result (out.new.items ≡ out.old.items ++ report.line (codes "forest report 1")
         ++ report.line (report.field (codes "entries ") entries)) }
 {
@@ -236,7 +228,7 @@ pub(crate) fn add_head(out: &mut Vec<u8>, entries: u64) -> Result<(), NoMemory>
 }
 
 /// Adds what a report has after its entries.
-pub(crate) fn add_tail(out: &mut Vec<u8>, retries: &Retries) -> Result<(), NoMemory>
+fn add_tail(out: &mut Vec<u8>, retries: &Retries) -> Result<(), NoMemory>
     ensures { OnOk result (out.new.items ≡ out.old.items
         ++ report.line (report.field (codes "retries ") (length retries.now))
         ++ flat_map report.retry_line retries.now ++ report.line (codes "end")) }
@@ -267,10 +259,9 @@ pub fn printed_report(
 pub fn report(alloc: Global, board: &Board, retries: &Retries) -> Result<LongText, NoMemory>
     ensures { IfOk result (λ text. text ≡ whole.report board.now.base board.now.order retries.now) }
 {
-    let count = board.len();
     let mut out = Vec::new(alloc);
-    add_head(&mut out, count)?;
-    add_log(&mut out, board, 0, count)?;
+    add_head(&mut out, board.len())?;
+    add_log(&mut out, board)?;
     add_tail(&mut out, retries)?;
     Ok(LongText::from_vec(out))
 }

@@ -12,7 +12,7 @@ use fx_base::NoMemory;
 use fx_board::Board;
 use fx_inputs::Bases;
 use fx_outside::Gate;
-use fx_report::{Retries, Viewed, report_beside, views_text};
+use fx_report::{Retries, Viewed, report, views_text};
 use fx_shared::Versioned;
 use fx_store::LongText;
 use fx_views::run_views;
@@ -28,8 +28,7 @@ pub(crate) struct Answer {
 }
 
 /// What is printed: the report of the run, and then the views.
-fn printed<R: Threads + Wait + Sync>(
-    rt: &R,
+fn printed(
     alloc: Global,
     board: &Board,
     retries: &Retries,
@@ -38,7 +37,7 @@ fn printed<R: Threads + Wait + Sync>(
     ensures { IfOk result (λ text. text
         ≡ whole.report board.now.base board.now.order retries.now ++ lines.views_text viewed.now) }
 {
-    let report = report_beside(rt, alloc, board, retries)?;
+    let report = report(alloc, board, retries)?;
     let views = views_text(alloc, viewed)?;
     let mut bytes = report.into_vec();
     bytes.extend_from_slice(views.as_slice())?;
@@ -59,7 +58,7 @@ pub(crate) fn run_bases<R: Threads + Wait + Sync, G: Gate + Sync>(
 {
     let Bases { scripts, views } = bases;
     let (log, retries, viewed) = run_views(rt, alloc, scripts, views, gate)?;
-    let output = printed(rt, alloc, log.board(), &retries, &viewed);
+    let output = printed(alloc, log.board(), &retries, &viewed);
     mem::forget(retries);
     mem::forget(viewed);
     match output {

