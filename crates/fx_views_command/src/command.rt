@@ -13,7 +13,6 @@ use fx_inputs::read_bases;
 use fx_outside::{Gate, Host, Sink};
 use fx_words::ViewsJob;
 use std::alloc::Global;
-use std::mem;
 use std::sync::Wait;
 use std::thread::Threads;
 
@@ -62,6 +61,6 @@ pub fn views<R: Threads + Wait + Sync, H: Host, S: Sink, G: Gate + Sync>(
     };
     let answer = run_bases(rt, alloc, bases, gate)?;
     let ended = leave(alloc, job, there, &answer, host, out);
-    mem::forget(answer.log);
+    answer.leave();
     ended
 }

@@ -27,6 +27,14 @@ pub(crate) struct Answer {
     pub output: LongText,
 }
 
+impl Answer {
+    /// Leaves the log where it is.
+    pub(crate) fn leave(self) {
+        let Answer { log, output: _ } = self;
+        mem::forget(log);
+    }
+}
+
 /// What is printed: the report of the run, and then the views.
 fn printed(
     alloc: Global,

@@ -23,7 +23,6 @@ use fx_outside::{Gate, Host, Sink};
 use fx_spec::Base;
 use fx_words::RunJob;
 use std::alloc::Global;
-use std::mem;
 use std::sync::{Arc, Wait};
 use std::thread::Threads;
 
@@ -95,7 +94,7 @@ pub fn run<R: Threads + Wait + Sync, H: Host, S: Sink, G: Gate + Sync>(
     let (base, there) = begin(rt, alloc, job, host)?;
     let answer = run_base(rt, alloc, base, gate)?;
     let ended = leave(alloc, job, there, &answer, host, out);
-    mem::forget(answer.board);
+    answer.leave();
     ended
 }
 
@@ -117,6 +116,6 @@ pub fn trace<R: Threads, H: Host, S: Sink>(
     let (base, there) = begin(rt, alloc, job, host)?;
     let answer = trace_base(alloc, job, base)?;
     let ended = leave(alloc, job, there, &answer, host, out);
-    mem::forget(answer.board);
+    answer.leave();
     ended
 }

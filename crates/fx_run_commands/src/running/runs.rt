@@ -27,6 +27,14 @@ pub(crate) struct Answer {
     pub output: LongText,
 }
 
+impl Answer {
+    /// Leaves the log where it is.
+    pub(crate) fn leave(self) {
+        let Answer { board, output: _ } = self;
+        mem::forget(board);
+    }
+}
+
 /// Two texts, one after the other.
 fn joined(front: LongText, back: &LongText) -> Result<LongText, NoMemory>
     ensures { IfOk result (λ text. text ≡ front ++ back.now) }

@@ -11,5 +11,5 @@ returns-in-Ok c =
     let base = base_tree c.args.base.value in
     let schedule = c.args.schedule.now in
     let traced = c.in_ok-traced.traced in
-    subst (λ nodes. IsRunFrom base (Scheduled schedule) nodes c.in-Ok.output) (ap last_state (sym c.into_board-board.ensures))
+    subst (λ nodes. IsRunFrom base (Scheduled schedule) nodes c.in-Ok.output) (ap last_state (sym c.board_of-board.ensures))
     (traced_run base schedule traced c.in-Ok.output c.in_ok-traced.ensures c.in-Ok.ensures)
