@@ -4,10 +4,10 @@ use Rattle.fx_view.specs.ReadList.{ReadList}
 use Rattle.fx_spec.specs.Order.{BaseTree}
 use Rattle.fx_machine.specs.declared.attempt.Attempt.{Attempt}
 use Rattle.fx_machine.specs.Explained.{IsExplained}
-use Rattle.fx_run.specs.Running.{Foretells}
+use Rattle.fx_machine.specs.Needs.{Foretells}
 use Rattle.fx_shared.specs.Passes.{LogView}
 use Rattle.fx_shared.proofs.Truths.{begins_short}
-use Rattle.fx_sched.proofs.Positions.{in_turn_from}
+use Rattle.fx_diaries.proofs.Positions.{in_turn_from}
 use Rattle.fx_workers.specs.Live.{Vouches}
 use Rattle.fx_workers.specs.Working.{HasTried}
 

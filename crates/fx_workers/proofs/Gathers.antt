@@ -15,9 +15,9 @@ use Rattle.fx_board.specs.Log.{Log}
 use Rattle.fx_turn.specs.Histories.{Begins}
 use Rattle.fx_turn.specs.Views.{joining, joins, number_of}
 use Rattle.fx_shared.specs.Passes.{LogView}
-use Rattle.fx_sched.specs.Runs.{HasWorked, IsOfSomeRun}
-use Rattle.fx_sched.proofs.Closing.{worked_more, diaries_make_runs}
-use Rattle.fx_sched.proofs.Growing.{put, put_same, put_other, flat_same, flat_last}
+use Rattle.fx_diaries.specs.Runs.{HasWorked, IsOfSomeRun}
+use Rattle.fx_diaries.proofs.Closing.{worked_more, diaries_make_runs}
+use Rattle.fx_diaries.proofs.Growing.{put, put_same, put_other, flat_same, flat_last}
 use Rattle.fx_workers.specs.Workers.{HasGathered, counts_below}
 use Rattle.fx_workers.proofs.Orders.{completes}
 

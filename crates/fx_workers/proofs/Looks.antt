@@ -19,8 +19,8 @@ use Rattle.fx_shared.specs.Shared.{IsPassOf, IsReadyPass}
 use Rattle.fx_turn.proofs.Growth.{begins_on}
 use Rattle.fx_shared.specs.Passes.{LogView, HasSeenMore, IsLook}
 use Rattle.fx_shared.proofs.Truths.{begins_short, true_later}
-use Rattle.fx_sched.specs.Positions.{InTurn}
-use Rattle.fx_sched.proofs.Positions.{in_turn_longer, in_turn_more}
+use Rattle.fx_diaries.specs.Positions.{InTurn}
+use Rattle.fx_diaries.proofs.Positions.{in_turn_longer, in_turn_more}
 use Rattle.fx_workers.specs.Live.{AreInTurn, AreTrueOver, Vouches}
 
 abbrev Path : Type 0

@@ -10,19 +10,19 @@ use Rattle.fx_spec.specs.Order.{BaseTree, IsLegal}
 use Rattle.fx_machine.specs.declared.attempt.Attempt.{Attempt}
 use Rattle.fx_machine.specs.declared.retry.Retry.{Retry}
 use Rattle.fx_machine.specs.Machine.{next_number}
+use Rattle.fx_machine.specs.Needs.{AllRead}
 use Rattle.fx_machine.specs.Passes.{AreTrueReads}
 use Rattle.fx_board.specs.Board.{IsFreshReads, IsNamed}
-use Rattle.fx_sched.specs.Moves.{AllRead}
-use Rattle.fx_sched.proofs.Looks.{all_read}
+use Rattle.fx_diaries.proofs.Looks.{all_read}
 use Rattle.fx_turn.specs.Histories.{Begins}
 use Rattle.fx_turn.proofs.Growth.{begins_on, begins_more, begins_same}
 use Rattle.fx_shared.specs.Passes.{LogView, HasBase, HasLegal, HasSeenMore, HasSettled, log_over}
 use Rattle.fx_shared.proofs.Truths.{begins_short, true_later}
-use Rattle.fx_sched.specs.Diaries.{Diary}
-use Rattle.fx_sched.specs.Positions.{InTurn}
-use Rattle.fx_sched.proofs.Attempting.{own_counts, quiet_between, waits_to, settles, restarts}
-use Rattle.fx_sched.proofs.Growing.{empty, by_seen}
-use Rattle.fx_sched.proofs.Positions.{in_turn_longer, in_turn_by}
+use Rattle.fx_diaries.specs.Diaries.{Diary}
+use Rattle.fx_diaries.specs.Positions.{InTurn}
+use Rattle.fx_diaries.proofs.Attempting.{own_counts, quiet_between, waits_to, settles, restarts}
+use Rattle.fx_diaries.proofs.Growing.{empty, by_seen}
+use Rattle.fx_diaries.proofs.Positions.{in_turn_longer, in_turn_by}
 use Rattle.fx_workers.specs.declared.attempting.Outcome.TheVariants.{Settled, Conflict}
 use Rattle.fx_workers.specs.declared.worker.Worker.{Worker}
 use Rattle.fx_workers.specs.Working.{HasTried, ComesTo, IsWorker, HasEntry, HasRetry, HasGone}

@@ -18,7 +18,7 @@ use Rattle.fx_shared.specs.Passes.{LogView}
 use Rattle.fx_shared.specs.Shared.{IsPassOf, IsReadyPass}
 use Rattle.fx_workers.specs.declared.worker.Worked.{Worked}
 use Rattle.fx_machine.specs.Machine.{next_number}
-use Rattle.fx_sched.specs.Runs.{HasWorked}
+use Rattle.fx_diaries.specs.Runs.{HasWorked}
 use Rattle.fx_workers.specs.declared.worker.Worker.{Worker}
 use Rattle.fx_workers.specs.Working.{HasWorkedOff}
 use Rattle.fx_workers.specs.Workers.{IsFresh, AreFresh, IsDone, IsDoneBy, IsMakerOf, AreDone}

@@ -11,7 +11,7 @@ use Rattle.fx_spec.specs.Order.{BaseTree}
 use Rattle.fx_machine.specs.Passes.{AreTrueReads}
 use Rattle.fx_turn.proofs.Growth.{begins_same}
 use Rattle.fx_shared.specs.Passes.{LogView, HasSeenMore}
-use Rattle.fx_sched.specs.Positions.{InTurn, InTurn-prop}
+use Rattle.fx_diaries.specs.Positions.{InTurn, InTurn-prop}
 
 -- the reads are true for the pass, whose base this is
 abbrev pub AreTrueOver : LogView → ReadList → Type 0

@@ -6,7 +6,7 @@ use Rattle.fx_spec.specs.CommandTree.{CommandTree}
 use Rattle.fx_spec.specs.Plans.{Turn, count_of}
 use Rattle.fx_spec.specs.Order.{BaseTree, first_numbers}
 use Rattle.fx_machine.specs.declared.retry.Retry.{Retry}
-use Rattle.fx_sched.specs.Runs.{HasWorked}
+use Rattle.fx_diaries.specs.Runs.{HasWorked}
 use Rattle.fx_turn.specs.declared.kept.Kept.{Ghosts}
 use Rattle.fx_turn.specs.declared.seat.Seat.{Seat}
 use Rattle.fx_turn.specs.Views.{joins}

@@ -7,10 +7,10 @@ use Rattle.fx_machine.specs.declared.attempt.Attempt.{Attempt}
 use Rattle.fx_machine.specs.declared.retry.Retry.{Retry}
 use Rattle.fx_machine.specs.Explained.{IsExplained}
 use Rattle.fx_machine.specs.Machine.{next_number}
-use Rattle.fx_run.specs.Running.{Foretells}
+use Rattle.fx_machine.specs.Needs.{Foretells}
 use Rattle.fx_board.specs.Board.{IsNamed}
-use Rattle.fx_sched.specs.Diaries.{Diary}
-use Rattle.fx_sched.specs.Positions.{InTurn}
+use Rattle.fx_diaries.specs.Diaries.{Diary}
+use Rattle.fx_diaries.specs.Positions.{InTurn}
 use Rattle.fx_shared.specs.Passes.{LogView, HasBase, HasSeenMore, HasSettled, log_over}
 use Rattle.fx_workers.specs.declared.attempting.Outcome.{Outcome}
 use Rattle.fx_workers.specs.declared.attempting.Outcome.TheVariants as outcome

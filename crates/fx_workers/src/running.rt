@@ -4,7 +4,7 @@ ghost use Rattle.fx_base.specs.Limits.{shell_limit};
 ghost use Rattle.fx_spec.specs.Bases.{base_tree};
 ghost use Rattle.fx_spec.specs.Order.{IsComplete, RetriesOk};
 ghost use Rattle.fx_machine.specs.Tried.{retry_tree};
-ghost use Rattle.fx_sched.specs.Runs.{IsOfSomeRun};
+ghost use Rattle.fx_diaries.specs.Runs.{IsOfSomeRun};
 ghost use Rattle.fx_turn.specs.Views.{joins};
 ghost use Rattle.fx_turn.specs.Seats.{view};
 ghost use Rattle.fx_shared.specs.Shared.{IsPassOf};

@@ -6,7 +6,7 @@ use Rattle.fx_view.specs.ReadList.{ReadList}
 use Rattle.fx_spec.specs.Order.{BaseTree}
 use Rattle.fx_machine.specs.declared.attempt.Attempt.{Attempt}
 use Rattle.fx_machine.specs.Explained.{IsExplained}
-use Rattle.fx_run.specs.Running.{ReadsFit}
+use Rattle.fx_machine.specs.Needs.{ReadsFit}
 use Rattle.fx_turn.proofs.Growth.{begins_same}
 use Rattle.fx_shared.specs.Passes.{LogView, HasSeenMore, IsLook}
 use Rattle.fx_workers.specs.Live.{AreTrueOver}

@@ -11,7 +11,7 @@ use Rattle.fx_turn.specs.declared.kept.Kept.{Ghosts}
 use Rattle.fx_turn.specs.declared.seat.Seat.{Seat}
 use Rattle.fx_turn.specs.Views.{joins}
 use Rattle.fx_turn.specs.Seats.{view}
-use Rattle.fx_run.specs.Running.{ReadsFit}
+use Rattle.fx_machine.specs.Needs.{ReadsFit}
 use Rattle.fx_shared.specs.declared.shares.Shares.{Shares}
 use Rattle.fx_shared.specs.Passes.{LogView, HasSeenMore}
 use Rattle.fx_shared.specs.Shared.{IsPassOf, IsReadyPass}

@@ -13,8 +13,8 @@ use Rattle.fx_machine.specs.declared.event.Event.TheVariants as event
 use Rattle.fx_machine.specs.declared.retry.Retry.{Retry}
 use Rattle.fx_machine.specs.Machine.{Look, next_number}
 use Rattle.fx_machine.specs.Tried.{conflicts_of}
-use Rattle.fx_sched.specs.Diaries.{DoesInShell, DoesAll, MaySettle, Diary, retries_at, retries_to}
-use Rattle.fx_sched.specs.Laws.{EmptyDiary, GrowsByEvent, GrowsByOther, GrowsByOwn, GrowsBySeen, DiariesGrow}
+use Rattle.fx_diaries.specs.Diaries.{DoesInShell, DoesAll, MaySettle, Diary, retries_at, retries_to}
+use Rattle.fx_diaries.specs.Laws.{EmptyDiary, GrowsByEvent, GrowsByOther, GrowsByOwn, GrowsBySeen, DiariesGrow}
 
 -- ---- a function with another value at one number
 

@@ -3,8 +3,8 @@ use Rattle.std.proofs.Common.{◌≡◌, List, [], ◌∷◌, ◌++◌, sym, ap,
 use Rattle.fx_spec.specs.Order.{BaseTree}
 use Rattle.fx_machine.specs.declared.event.Event.{Event}
 use Rattle.fx_machine.specs.Machine.{Machine, Step, Run}
-use Rattle.fx_sched.specs.Named.{NamesConflict, NameConflicts}
-use Rattle.fx_sched.proofs.Runs.{step_same}
+use Rattle.fx_diaries.specs.Named.{NamesConflict, NameConflicts}
+use Rattle.fx_diaries.proofs.Runs.{step_same}
 
 none_within : (before : List Event) (e : Event) (after : List Event) → [] ≡ before ++ e ∷ after → ⊥
 none_within [] e after split = absurd (cc)

@@ -5,7 +5,7 @@ use Rattle.fx_spec.specs.Order.{BaseTree}
 use Rattle.fx_machine.specs.declared.event.Event.{Event}
 use Rattle.fx_machine.specs.declared.event.Event.TheVariants as event
 use Rattle.fx_machine.specs.Machine.{Machine, Run, Step}
-use Rattle.fx_sched.specs.Named.{NamesConflict, NameConflicts}
+use Rattle.fx_diaries.specs.Named.{NamesConflict, NameConflicts}
 
 pub same_step : (base : BaseTree) (m : Machine) (e : Event) (a b : Machine) → Step base m e a → Step base m e b → a ≡ b
 same_step base m (event.Look shell path position) a b one two = one.after ∙ sym two.after

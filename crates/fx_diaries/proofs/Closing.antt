@@ -11,13 +11,13 @@ use Rattle.fx_machine.specs.Machine.{next_number, resting}
 use Rattle.fx_machine.specs.Tried.{conflicts_of, retry_tree}
 use Rattle.fx_machine.proofs.Complete.{complete_runs}
 use Rattle.fx_machine.proofs.Reached.{shell_within}
-use Rattle.fx_sched.specs.Diaries.{Diary}
-use Rattle.fx_sched.specs.Laws.{DiariesMakeRuns}
-use Rattle.fx_sched.specs.Runs.{HasWorked, IsOfSomeRun, shells_in}
-use Rattle.fx_sched.proofs.Attempting.{next_rises, own_counts, waits_to}
-use Rattle.fx_sched.proofs.Following.{runs_have_schedules, shells_of_plan}
-use Rattle.fx_sched.proofs.Growing.{empty, by_seen, flat_same}
-use Rattle.fx_sched.proofs.Merging.{HasRun, merged}
+use Rattle.fx_diaries.specs.Diaries.{Diary}
+use Rattle.fx_diaries.specs.Laws.{DiariesMakeRuns}
+use Rattle.fx_diaries.specs.Runs.{HasWorked, IsOfSomeRun, shells_in}
+use Rattle.fx_diaries.proofs.Attempting.{next_rises, own_counts, waits_to}
+use Rattle.fx_diaries.proofs.Following.{runs_have_schedules, shells_of_plan}
+use Rattle.fx_diaries.proofs.Growing.{empty, by_seen, flat_same}
+use Rattle.fx_diaries.proofs.Merging.{HasRun, merged}
 
 module _ (base : BaseTree) (o : List Turn) (legal : IsLegal base o) where
   -- the shells of an order are the plan's

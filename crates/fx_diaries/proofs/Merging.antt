@@ -18,9 +18,9 @@ use Rattle.fx_machine.specs.Tried.{conflicts_of}
 use Rattle.fx_machine.specs.Machine.{Machine, Look, Run, Step, looks_of, next_number, resting}
 use Rattle.fx_machine.proofs.Reached.{none_looked}
 use Rattle.fx_machine.proofs.Turning.{runs_on, settled_by, settled_cons, next_counts}
-use Rattle.fx_sched.specs.Named.{NamesConflict, NameConflicts}
-use Rattle.fx_sched.proofs.Naming.{NamesAll, name_on, name_conflicts, same_run, same_step}
-use Rattle.fx_sched.specs.Diaries.{LooksNext, StartsAgain, DoesInShell, DoesAll, MaySettle, Diary, retries_at}
+use Rattle.fx_diaries.specs.Named.{NamesConflict, NameConflicts}
+use Rattle.fx_diaries.proofs.Naming.{NamesAll, name_on, name_conflicts, same_run, same_step}
+use Rattle.fx_diaries.specs.Diaries.{LooksNext, StartsAgain, DoesInShell, DoesAll, MaySettle, Diary, retries_at}
 
 -- ---- one shell, while the order stays
 

@@ -8,8 +8,8 @@ use Rattle.fx_machine.specs.declared.retry.Retry.{Retry}
 use Rattle.fx_machine.specs.Machine.{Look, Run, resting, next_number}
 use Rattle.fx_machine.specs.Tried.{conflicts_of}
 use Rattle.fx_machine.specs.Turns.{FollowsSchedule}
-use Rattle.fx_sched.specs.Diaries.{DoesInShell, MaySettle, Diary}
-use Rattle.fx_sched.specs.Runs.{shells_in, HasWorked, IsOfSomeRun}
+use Rattle.fx_diaries.specs.Diaries.{DoesInShell, MaySettle, Diary}
+use Rattle.fx_diaries.specs.Runs.{shells_in, HasWorked, IsOfSomeRun}
 
 -- before anything is done
 abbrev pub EmptyDiary : Type 0

@@ -26,12 +26,11 @@ use Rattle.fx_machine.specs.declared.attempt.Attempt.{Attempt}
 use Rattle.fx_machine.specs.Explained.{IsExplained, RunsAs}
 use Rattle.fx_machine.specs.Machine.{position_at, first_unseen, AgreesAt, HasSeenAll, ComesNext, IsStaleAt, IsFresh}
 use Rattle.fx_machine.specs.Passes.{AreTrueReads}
-use Rattle.fx_run.specs.Running.{IsNeeded}
+use Rattle.fx_machine.specs.Needs.{IsNeeded, AllRead}
 use Rattle.fx_board.specs.Board.{IsFreshReads, IsStaleRead, IsNamed}
 use Rattle.fx_board.specs.Log.{Log}
-use Rattle.fx_sched.specs.Shells.{looks_in}
-use Rattle.fx_sched.specs.Moves.{AllRead}
-use Rattle.fx_sched.specs.Named.{IsNamedAt}
+use Rattle.fx_diaries.specs.Looks.{looks_in}
+use Rattle.fx_diaries.specs.Named.{IsNamedAt}
 
 abbrev Path : Type 0
 Path = List (List ℕ)

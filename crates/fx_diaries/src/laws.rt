@@ -1,7 +1,7 @@
 //! Diaries of shells: what each shell of a run does by the time of each entry of the order, as far as it knows; and that together
 //! they are a run of the machine. Each law stands on a function that does nothing, so that it is proved with the crate.
 
-ghost use Rattle.fx_sched.specs.Laws.{DiariesGrow, DiariesMakeRuns, RunsHaveSchedules};
+ghost use Rattle.fx_diaries.specs.Laws.{DiariesGrow, DiariesMakeRuns, RunsHaveSchedules};
 
 /// A shell's diary begins empty, and grows with each event, with each entry and with all that its pass sees.
 pub fn diaries_grow()

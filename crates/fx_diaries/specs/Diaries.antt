@@ -11,7 +11,7 @@ use Rattle.fx_machine.specs.declared.event.Event.TheVariants as event
 use Rattle.fx_machine.specs.declared.retry.Retry.{Retry}
 use Rattle.fx_machine.specs.Tried.{conflicts_of}
 use Rattle.fx_machine.specs.Machine.{Look, next_txn, next_number, position_at, ComesNext, HasSeenAll, IsFresh}
-use Rattle.fx_sched.specs.Named.{IsNamedAt}
+use Rattle.fx_diaries.specs.Named.{IsNamedAt}
 
 -- the shell looks at the path that comes next for it
 pub record LooksNext (base : BaseTree) (o : List Turn) (shell : ℕ) (looks : List Look) (path : List (List ℕ)) (position : ℕ) (looks' : List Look) : Type 0 where

@@ -23,16 +23,15 @@ use Rattle.fx_machine.specs.declared.retry.Retry.{Retry}
 use Rattle.fx_machine.specs.Machine.{Look, HasSeenAll, next_number}
 use Rattle.fx_machine.specs.Passes.{AreTrueReads}
 use Rattle.fx_machine.specs.Tried.{conflicts_of}
-use Rattle.fx_run.specs.Running.{IsNext, Foretells}
+use Rattle.fx_machine.specs.Needs.{IsNext, Foretells, AllRead}
 use Rattle.fx_board.specs.Board.{IsFreshReads, IsNamed}
 use Rattle.fx_board.specs.Log.{Log}
-use Rattle.fx_sched.specs.Moves.{AllRead}
-use Rattle.fx_sched.specs.Shells.{looks_in}
-use Rattle.fx_sched.proofs.Looks.{unlooked, comes_next, has_seen_all, fresh_at, named_at}
-use Rattle.fx_sched.specs.Diaries.{DoesInShell, Diary}
-use Rattle.fx_sched.specs.Positions.{InTurn}
-use Rattle.fx_sched.proofs.Growing.{by_event, by_other, by_own}
-use Rattle.fx_sched.proofs.Positions.{in_turn_ends, in_turn_by}
+use Rattle.fx_diaries.specs.Looks.{looks_in}
+use Rattle.fx_diaries.proofs.Looks.{unlooked, comes_next, has_seen_all, fresh_at, named_at}
+use Rattle.fx_diaries.specs.Diaries.{DoesInShell, Diary}
+use Rattle.fx_diaries.specs.Positions.{InTurn}
+use Rattle.fx_diaries.proofs.Growing.{by_event, by_other, by_own}
+use Rattle.fx_diaries.proofs.Positions.{in_turn_ends, in_turn_by}
 
 abbrev Path : Type 0
 Path = List (List ℕ)

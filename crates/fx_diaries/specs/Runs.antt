@@ -7,8 +7,8 @@ use Rattle.fx_machine.specs.declared.retry.Retry.{Retry}
 use Rattle.fx_machine.specs.Machine.{Run, resting, next_number, shell_of}
 use Rattle.fx_machine.specs.Tried.{retries_of}
 use Rattle.fx_machine.specs.Turns.{FollowsSchedule}
-use Rattle.fx_sched.specs.Named.{NameConflicts}
-use Rattle.fx_sched.specs.Diaries.{Diary}
+use Rattle.fx_diaries.specs.Named.{NameConflicts}
+use Rattle.fx_diaries.specs.Diaries.{Diary}
 
 -- the shells of events, in order
 abbrev pub shells_in : List Event → List ℕ

@@ -15,8 +15,8 @@ use Rattle.fx_machine.proofs.Legal.{fewer_settled}
 use Rattle.fx_machine.proofs.Reached.{shell_within}
 use Rattle.fx_machine.specs.Turns.{TakesTurns, steps, over}
 use Rattle.fx_machine.proofs.Turning.{more_is_left, runs_on, some_within}
-use Rattle.fx_sched.specs.Runs.{shells_in}
-use Rattle.fx_sched.specs.Laws.{RunsHaveSchedules}
+use Rattle.fx_diaries.specs.Runs.{shells_in}
+use Rattle.fx_diaries.specs.Laws.{RunsHaveSchedules}
 
 -- ---- nothing is left of a complete order
 
