@@ -24,8 +24,8 @@ use Rattle.fx_sched.specs.declared.taking.Ended.{Ended}
 use Rattle.fx_sched.specs.declared.taking.Ended.TheVariants as end
 use Rattle.fx_sched.specs.Traced.{IsTraced}
 use Rattle.fx_sched.specs.World as World
-use Rattle.fx_sched.specs.Named.{NameConflicts}
-use Rattle.fx_sched.proofs.Runs.{run_same}
+use Rattle.fx_diaries.specs.Named.{NameConflicts}
+use Rattle.fx_diaries.proofs.Runs.{run_same}
 use Rattle.fx_sched.proofs.Worlds.{run_more}
 use Rattle.fx_journaling.specs.declared.fault.RecordFault.{RecordFault}
 use Rattle.fx_journaling.specs.declared.fault.RecordFault.TheVariants as fault

@@ -3,8 +3,8 @@ use Rattle.std.proofs.Common.{◌≡◌, ◌⊎◌, inl, inr, ℕ, zero, suc, Li
 use Rattle.std.specs.FinMap.{get}
 use Rattle.std.proofs.lemmas.List.{append-nil, append_assoc}
 use Rattle.std.proofs.lemmas.List.Concat.{flat_map-append}
-use Rattle.fx_sched.specs.Named.{NameConflicts}
-use Rattle.fx_sched.proofs.Named.{names_more}
+use Rattle.fx_diaries.specs.Named.{NameConflicts}
+use Rattle.fx_diaries.proofs.Named.{names_more}
 use Rattle.fx_sched.proofs.Worlds.{run_more}
 use Rattle.fx_base.proofs.Lists.{same_heads}
 use Rattle.fx_store.specs.Whole.{IsWhole}

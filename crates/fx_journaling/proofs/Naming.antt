@@ -17,7 +17,7 @@ use Rattle.fx_machine.specs.Machine.{Machine, Look, Run, position_at, IsStaleAt}
 use Rattle.fx_machine.specs.Measure.{changes_at}
 use Rattle.fx_machine.proofs.Stale.{changes_found, found_changes}
 use Rattle.fx_board.proofs.Indexes.{changes_within}
-use Rattle.fx_sched.specs.Named.{IsNamedAt, NameConflicts}
+use Rattle.fx_diaries.specs.Named.{IsNamedAt, NameConflicts}
 
 abbrev Path : Type 0
 Path = List (List ℕ)

@@ -15,8 +15,8 @@ use Rattle.fx_machine.specs.Ends.{HasEnd}
 use Rattle.fx_machine.proofs.Ending.{comes_to_end}
 use Rattle.fx_machine.proofs.Going.{goes_on}
 use Rattle.fx_machine.proofs.Tasked.{looks_at_paths}
-use Rattle.fx_sched.specs.Named.{NamesConflict, NameConflicts}
-use Rattle.fx_sched.proofs.Named.{names_more}
+use Rattle.fx_diaries.specs.Named.{NamesConflict, NameConflicts}
+use Rattle.fx_diaries.proofs.Named.{names_more}
 use Rattle.fx_sched.proofs.Worlds.{run_more}
 use Rattle.fx_journaling.proofs.Naming.{can_name}
 

@@ -10,7 +10,7 @@ use Rattle.fx_machine.specs.Tried.{retries_of}
 use Rattle.fx_machine.specs.Turns.{BeginsTurns, FollowsSchedule}
 use Rattle.fx_report.specs.Entries.{report}
 use Rattle.fx_report.specs.Events.{event_line, lines}
-use Rattle.fx_sched.specs.Named.{NamesConflict, NameConflicts}
+use Rattle.fx_diaries.specs.Named.{NamesConflict, NameConflicts}
 
 -- a part of the line of the event that comes next, short of its end; it names, if it is a conflict, the least path that was
 -- changed and the last entry that changed it

@@ -4,6 +4,7 @@ pub mod Explained
 pub mod Laws
 pub mod Machine
 pub mod Measure
+pub mod Needs
 pub mod Passes
 pub mod Tried
 pub mod Turns

@@ -21,7 +21,8 @@ use Rattle.fx_run.specs.declared.pursuing.Ran.{Ran}
 use Rattle.fx_run.specs.Course.{pursued, HasCome}
 use Rattle.fx_run.specs.Keeping.{AreKept}
 use Rattle.fx_run.specs.Finishing.{IsFinished, IsAttempt, Finishes}
-use Rattle.fx_run.specs.Running.{ReadsFit, Foretells, IsAttemptOf, KeepsOn, StoppedAt}
+use Rattle.fx_machine.specs.Needs.{ReadsFit, Foretells}
+use Rattle.fx_run.specs.Running.{IsAttemptOf, KeepsOn, StoppedAt}
 use Rattle.fx_run.proofs.Explaining.{explained, next_needed, unread_needed, fit_again}
 use Rattle.fx_run.proofs.Foretelling.{foretells}
 

@@ -32,7 +32,7 @@ use Rattle.fx_machine.specs.Explained.{IsNew, IsExplained}
 use Rattle.fx_run.specs.Course.{pursued}
 use Rattle.fx_run.specs.Pursuing.{Came}
 use Rattle.fx_run.specs.Keeping.{AreKept}
-use Rattle.fx_run.specs.Running.{ReadsFit, IsNeeded}
+use Rattle.fx_machine.specs.Needs.{ReadsFit, IsNeeded}
 use Rattle.fx_run.proofs.Pursuits.{pursued_end, pursued_after, pursued_asked}
 use Rattle.fx_run.proofs.Ways.{once-within, within-once, first-once, read_among}
 use Rattle.fx_run.proofs.Stable.{stable_node}

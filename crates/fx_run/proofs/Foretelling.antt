@@ -21,7 +21,7 @@ use Rattle.fx_view.proofs.Ordering.{order_at}
 use Rattle.fx_view.proofs.Rules.{follow_less, needs_unknown}
 use Rattle.fx_run.specs.Course.{pursued}
 use Rattle.fx_run.specs.Pursuing.{Came}
-use Rattle.fx_run.specs.Running.{IsNext, Foretells}
+use Rattle.fx_machine.specs.Needs.{IsNext, Foretells}
 use Rattle.fx_run.proofs.Explaining.{needs_way}
 
 abbrev Path : Type 0

@@ -4,7 +4,7 @@ use Rattle.std.proofs.lemmas.Bool.{false≢true}
 use Rattle.fx_view.specs.ReadList.{ReadList}
 use Rattle.fx_spec.specs.Plans.{Turn}
 use Rattle.fx_spec.specs.Order.{BaseTree}
-use Rattle.fx_run.specs.Running.{ReadsFit}
+use Rattle.fx_machine.specs.Needs.{ReadsFit}
 
 -- no reads fit every transaction
 pub none_fit : (base : BaseTree) (turn : Turn) (reads : ReadList) → reads ≡ [] → ReadsFit base turn reads

@@ -4,7 +4,8 @@ ghost use Rattle.fx_spec.specs.Plans.{txn_of};
 ghost use Rattle.fx_spec.specs.WellShaped.{IsTransaction};
 ghost use Rattle.fx_machine.specs.Explained.{IsExplained};
 ghost use Rattle.fx_run.specs.Finishing.{Finishes};
-ghost use Rattle.fx_run.specs.Running.{ReadsFit, Foretells, IsAttemptOf, StoppedAt};
+ghost use Rattle.fx_machine.specs.Needs.{ReadsFit, Foretells};
+ghost use Rattle.fx_run.specs.Running.{IsAttemptOf, StoppedAt};
 
 use crate::finishing::finish;
 use crate::pursuing::pursue;

@@ -14,8 +14,8 @@ use Rattle.fx_machine.specs.Turns.{TakesTurns}
 use Rattle.fx_machine.proofs.Complete.{complete_runs}
 use Rattle.fx_machine.proofs.Weight.{length_first}
 use Rattle.fx_machine.proofs.Resting.{at_rest, completed}
+use Rattle.fx_diaries.specs.Named.{NameConflicts}
 use Rattle.fx_sched.specs.declared.schedule.Traced.{Traced}
-use Rattle.fx_sched.specs.Named.{NameConflicts}
 use Rattle.fx_sched.specs.Recorded.{Play, joined, HadTurns, HadRounds}
 use Rattle.fx_sched.specs.Traced.{IsTraced}
 

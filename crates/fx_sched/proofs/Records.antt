@@ -19,15 +19,15 @@ use Rattle.fx_machine.proofs.Weight.{weight, weight_falls}
 use Rattle.fx_machine.proofs.Turns.{first_contains}
 use Rattle.fx_board.specs.Log.{Log}
 use Rattle.fx_machine.proofs.Turning.{settled_by, next_counts, some_within, more_is_left, runs_on}
+use Rattle.fx_diaries.specs.Named.{NameConflicts}
+use Rattle.fx_diaries.proofs.Named.{names_none, names_more}
 use Rattle.fx_sched.specs.declared.shell.Shell.{Shell}
 use Rattle.fx_sched.specs.Left.{SomeLeft}
-use Rattle.fx_sched.specs.Named.{NameConflicts}
 use Rattle.fx_sched.specs.Recorded.{Play, IsRecording, RunsBy, HadTurns, HadRounds}
 use Rattle.fx_sched.specs.Running.{Running}
 use Rattle.fx_sched.specs.Taking.{a_start}
 use Rattle.fx_sched.specs.World.{running_of, noted, IsWorld, Leads}
 use Rattle.fx_sched.proofs.Counts.{noted_conflicts}
-use Rattle.fx_sched.proofs.Named.{names_none, names_more}
 use Rattle.fx_sched.proofs.Worlds.{run_more, shell_at}
 
 -- ---- what a world answers

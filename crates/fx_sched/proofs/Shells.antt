@@ -27,17 +27,17 @@ use Rattle.fx_machine.specs.declared.event.Event.{Event}
 use Rattle.fx_machine.specs.declared.event.Event.TheVariants as event
 use Rattle.fx_machine.specs.Machine.{next_number}
 use Rattle.fx_machine.specs.Passes.{AreTrueReads}
-use Rattle.fx_run.specs.Running.{ReadsFit, IsNeeded, IsNext, Foretells}
+use Rattle.fx_machine.specs.Needs.{ReadsFit, IsNeeded, IsNext, Foretells, AllRead}
 use Rattle.fx_run.proofs.Foretelling.{known_as}
 use Rattle.fx_board.specs.Board.{last_state, state_at, settled, NeverChanged, IsLastChange, IsFreshReads, IsNamed}
 use Rattle.fx_board.specs.Log.{Log}
 use Rattle.fx_board.proofs.Settling.{stands_now}
+use Rattle.fx_diaries.proofs.Looks.{all_read, once_more, true_more}
 use Rattle.fx_sched.specs.declared.shell.Plan.{Plan}
 use Rattle.fx_sched.specs.declared.shell.Shell.{Shell}
 use Rattle.fx_sched.specs.Present.{AreCurrent, IsNowIn}
 use Rattle.fx_sched.specs.Shells.{looked_in, attempt_of, IsShellPlan, IsShell, HasReadyPlan, HasLooksOf}
-use Rattle.fx_sched.specs.Moves.{AllRead, HasLooked, HasJoined, HasRestarted, Moved, retry_of}
-use Rattle.fx_sched.proofs.Looks.{all_read, once_more, true_more}
+use Rattle.fx_sched.specs.Moves.{HasLooked, HasJoined, HasRestarted, Moved, retry_of}
 
 abbrev Path : Type 0
 Path = List (List ℕ)

@@ -17,15 +17,16 @@ use Rattle.fx_machine.specs.Laws.{IsReached}
 use Rattle.fx_machine.specs.Machine.{Machine, Look, Looks, Settles, Restarts, Step, Run, looks_of, position_at, next_number, next_txn, ComesNext, HasSeenAll, IsFresh, IsStaleAt, resting, shell_of}
 use Rattle.fx_board.specs.Board.{last_state, settled, started}
 use Rattle.fx_board.specs.Log.{Log}
+use Rattle.fx_diaries.specs.Looks.{looks_in}
+use Rattle.fx_diaries.specs.Named.{IsNamedAt, NamesConflict}
+use Rattle.fx_diaries.proofs.Looks.{unlooked, has_seen_all, comes_next, stale_at, fresh_at, named_at, true_longer}
 use Rattle.fx_sched.specs.declared.shell.Shell.{Shell}
-use Rattle.fx_sched.specs.Shells.{looks_in, looked_in, IsShell, HasLooksOf}
+use Rattle.fx_sched.specs.Shells.{looked_in, IsShell, HasLooksOf}
 use Rattle.fx_sched.specs.World.{machine_of, running_of, noted, IsWorld, new_shell, began, Leads}
 use Rattle.fx_sched.specs.Moves.{Moved, retry_of}
-use Rattle.fx_sched.specs.Named.{IsNamedAt, NamesConflict}
 use Rattle.fx_sched.specs.Running.{Running}
 use Rattle.fx_machine.specs.Measure.{measure, IsLower}
 use Rattle.fx_machine.proofs.Lowering.{events_lower}
-use Rattle.fx_sched.proofs.Looks.{unlooked, has_seen_all, comes_next, stale_at, fresh_at, named_at, true_longer}
 use Rattle.fx_sched.proofs.Shells.{fresh_shell, longer_plan}
 
 abbrev Path : Type 0

@@ -1,13 +1,8 @@
-pub mod Diaries
-pub mod Laws
 pub mod Left
 pub mod Moves
-pub mod Named
-pub mod Positions
 pub mod Present
 pub mod Recorded
 pub mod Running
-pub mod Runs
 pub mod Shells
 pub mod Taking
 pub mod Traced

@@ -1,28 +1,15 @@
 -- What one step says of one shell and the log.
-use Rattle.std.specs.Prelude.{◌≡◌, ℕ, suc, List, [], ◌∷◌, ◌++◌, length, Some, None}
+use Rattle.std.specs.Prelude.{◌≡◌, ℕ, suc, List, [], ◌∷◌, ◌++◌, length}
 use Rattle.std.specs.FinMap.{get}
 use Rattle.fx_store.specs.Names.{IsPath}
-use Rattle.fx_store.specs.Rule.{first_unknown}
-use Rattle.fx_store.specs.Whole.{Nodes, IsWhole}
-use Rattle.fx_spec.specs.CommandTree.{CommandTree}
-use Rattle.fx_spec.specs.Order.{BaseTree}
-use Rattle.fx_spec.specs.Plans.{Turn, txn_of}
-use Rattle.fx_spec.specs.Transaction.{way}
-use Rattle.fx_view.specs.ReadList.{ReadList}
-use Rattle.fx_view.specs.Reads.{known_of, Agrees}
 use Rattle.fx_machine.specs.declared.retry.Retry.{Retry}
 use Rattle.fx_machine.specs.declared.event.Event.{Event}
 use Rattle.fx_machine.specs.declared.event.Event.TheVariants as event
-use Rattle.fx_run.specs.Running.{IsNext}
+use Rattle.fx_machine.specs.Needs.{IsNext, AllRead}
 use Rattle.fx_board.specs.Board.{last_state, settled, IsFreshReads, IsNamed}
 use Rattle.fx_board.specs.Log.{Log}
 use Rattle.fx_sched.specs.declared.shell.Shell.{Shell}
 use Rattle.fx_sched.specs.Shells.{looked_in}
-
--- all that the transaction consults is read, on every whole filestore that agrees with the reads
-abbrev pub AllRead : BaseTree → Turn → ReadList → Type 0
-AllRead base turn reads =
-    (t : List CommandTree) → txn_of base.plan turn ≡ Some t → (nodes : Nodes) → IsWhole (get nodes) → Agrees reads (get nodes) → first_unknown (known_of reads) (way base.description t (get nodes)) ≡ None
 
 -- the shell has looked at the path that came next, as it stands after all entries
 pub record HasLooked (old new : Log) (number : ℕ) (s : Shell) (path : List (List ℕ)) (position : ℕ) (t : Shell) : Type 0 where

@@ -7,7 +7,7 @@ use Rattle.fx_machine.specs.Machine.{Run, resting}
 use Rattle.fx_machine.specs.Measure.{has_left}
 use Rattle.fx_machine.specs.Tried.{conflicts_of}
 use Rattle.fx_machine.specs.Turns.{TakesTurns, BeginsTurns}
-use Rattle.fx_sched.specs.Named.{NameConflicts}
+use Rattle.fx_diaries.specs.Named.{NameConflicts}
 use Rattle.fx_sched.specs.Running.{Running}
 
 -- a run up to some moment: the events that have come, and what they have led to

@@ -1,22 +1,18 @@
 -- What a shell keeps between its steps.
-use Rattle.std.specs.Prelude.{◌≡◌, ◌≤◌, ℕ, List, length, map, take, slice_get, Option, Some, IfSome}
+use Rattle.std.specs.Prelude.{◌≡◌, ◌≤◌, ℕ, List, length, take, slice_get, Option, Some, IfSome}
 use Rattle.std.specs.FinMap.{get}
 use Rattle.fx_store.specs.declared.node.Node.{Node}
 use Rattle.fx_view.specs.ReadList.{ReadList}
 use Rattle.fx_view.specs.Reads.{IsReads}
 use Rattle.fx_machine.specs.declared.attempt.Attempt.{Attempt}
 use Rattle.fx_machine.specs.Explained.{IsExplained}
-use Rattle.fx_machine.specs.Machine.{Look, next_number}
+use Rattle.fx_machine.specs.Machine.{next_number}
 use Rattle.fx_machine.specs.Passes.{AreTrueReads}
-use Rattle.fx_run.specs.Running.{ReadsFit, Foretells}
+use Rattle.fx_machine.specs.Needs.{ReadsFit, Foretells}
 use Rattle.fx_board.specs.Board.{last_state, state_at}
 use Rattle.fx_board.specs.Log.{Log}
 use Rattle.fx_sched.specs.declared.shell.Plan.{Plan}
 use Rattle.fx_sched.specs.declared.shell.Shell.{Shell}
-
--- the looks that reads are of
-abbrev pub looks_in : ReadList → List Look
-looks_in reads = map (λ r. (r.0, r.1.1)) reads
 
 -- the reads of a shell that are looks
 abbrev pub looked_in : Shell → ReadList

@@ -4,8 +4,8 @@ use Rattle.fx_spec.specs.Order.{BaseTree, IsComplete, RetriesOk}
 use Rattle.fx_machine.specs.Machine.{Run, resting}
 use Rattle.fx_machine.specs.Tried.{retries_of, retry_tree}
 use Rattle.fx_machine.specs.Turns.{FollowsSchedule}
+use Rattle.fx_diaries.specs.Named.{NameConflicts}
 use Rattle.fx_sched.specs.declared.schedule.Traced.{Traced}
-use Rattle.fx_sched.specs.Named.{NameConflicts}
 
 -- the events are a run of the machine from the start to a complete order with no looks left, by the schedule's turns; each
 -- conflict names the least path that was changed and the last entry that changed it, and the retries are the conflicts, by shell

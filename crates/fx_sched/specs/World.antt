@@ -8,11 +8,12 @@ use Rattle.fx_machine.specs.declared.retry.Retry.{Retry}
 use Rattle.fx_machine.specs.Laws.{IsReached}
 use Rattle.fx_machine.specs.Machine.{Machine, Step, resting, next_number, next_txn, shell_of}
 use Rattle.fx_board.specs.Log.{Log}
+use Rattle.fx_diaries.specs.Looks.{looks_in}
+use Rattle.fx_diaries.specs.Named.{NamesConflict}
 use Rattle.fx_sched.specs.declared.shell.Shell.{Shell}
-use Rattle.fx_sched.specs.Named.{NamesConflict}
 use Rattle.fx_sched.specs.Recorded.{joined}
 use Rattle.fx_sched.specs.Running.{Running}
-use Rattle.fx_sched.specs.Shells.{looks_in, looked_in, IsShell}
+use Rattle.fx_sched.specs.Shells.{looked_in, IsShell}
 
 -- the machine's state, and with its base
 abbrev pub machine_of : List Turn → List Shell → Machine

@@ -1,7 +1,6 @@
-//! Several shells on one thread: single steps of a shell, and whole runs by a schedule; and laws on diaries of shells.
+//! Several shells on one thread: single steps of a shell, and whole runs by a schedule.
 #![tactic(auto)]
 
-pub mod laws;
 mod moves;
 mod present;
 mod room;

@@ -14,9 +14,9 @@ use Rattle.fx_turn.specs.Views.{joining, joins, number_of}
 use Rattle.fx_turn.proofs.Growth.{begins_on}
 use Rattle.fx_shared.specs.Passes.{LogView}
 use Rattle.fx_report.specs.declared.printed.View.{View}
-use Rattle.fx_workers.specs.Workers.{HasGathered}
-use Rattle.fx_sched.specs.Runs.{IsOfSomeRun}
-use Rattle.fx_workers.proofs.Gathers.{closes, closes_run}
+use Rattle.fx_crew.specs.Workers.{HasGathered}
+use Rattle.fx_diaries.specs.Runs.{IsOfSomeRun}
+use Rattle.fx_crew.proofs.Gathers.{closes, closes_run}
 use Rattle.fx_views.specs.Viewing.{HasLookedOver}
 use Rattle.fx_views.specs.Views.{AreViews}
 use Rattle.fx_views.proofs.Viewings.{views_later}

@@ -11,7 +11,7 @@ use Rattle.fx_view.proofs.Lists.{read_more_cases}
 use Rattle.fx_spec.specs.Order.{state}
 use Rattle.fx_shared.specs.Passes.{LogView, HasSeenMore}
 use Rattle.fx_shared.proofs.Truths.{begins_short, state_later}
-use Rattle.fx_workers.proofs.Looks.{see_on}
+use Rattle.fx_crew.proofs.Looks.{see_on}
 use Rattle.fx_views.specs.Past.{AreAt, WasAt, VouchesAt}
 
 abbrev Path : Type 0

@@ -10,7 +10,7 @@ use Rattle.fx_turn.specs.Seats.{view}
 use Rattle.fx_shared.specs.declared.shares.Shares.{Shares}
 use Rattle.fx_shared.specs.Passes.{LogView}
 use Rattle.fx_shared.specs.Shared.{IsReadyPass}
-use Rattle.fx_workers.specs.Workers.{HasGathered}
+use Rattle.fx_crew.specs.Workers.{HasGathered}
 use Rattle.fx_board.specs.Log.{Log}
 use Rattle.fx_report.specs.declared.printed.View.{View}
 use Rattle.fx_views.specs.declared.viewing.Onlooker.{Onlooker}

@@ -5,8 +5,8 @@ ghost use Rattle.fx_spec.specs.Plans.{count_of};
 ghost use Rattle.fx_turn.specs.Seats.{view};
 ghost use Rattle.fx_shared.specs.Passes.{HasSeenMore};
 ghost use Rattle.fx_shared.specs.Shared.{IsReadyPass};
-ghost use Rattle.fx_workers.specs.Crews.{base_of};
-ghost use Rattle.fx_workers.specs.Workers.{IsFresh};
+ghost use Rattle.fx_crew.specs.Crews.{base_of};
+ghost use Rattle.fx_crew.specs.Workers.{IsFresh};
 ghost use Rattle.fx_views.specs.Viewing.{AreAlike, IsOnlooker, HasLookedOn, IsViewSeen, IsViewedAfter};
 
 use crate::past::{Past, SnapPass};
@@ -19,7 +19,7 @@ use fx_run::run;
 use fx_shared::Versioned;
 use fx_spec::Base;
 use fx_view::Stop;
-use fx_workers::Crew;
+use fx_crew::Crew;
 use std::sync::{Arc, Wait};
 
 /// The worker of the views between two of them: its pass, and what was viewed.

@@ -6,7 +6,7 @@ use Rattle.fx_board.specs.Board.{last_state}
 use Rattle.fx_board.specs.Log.{Log}
 use Rattle.fx_machine.specs.declared.retry.Retry.{Retry}
 use Rattle.fx_machine.specs.Tried.{retry_tree}
-use Rattle.fx_sched.specs.Runs.{IsOfSomeRun}
+use Rattle.fx_diaries.specs.Runs.{IsOfSomeRun}
 use Rattle.fx_report.specs.declared.printed.View.{View}
 use Rattle.fx_report.specs.Entries.{report}
 use Rattle.fx_report.specs.Views.{views_text}

@@ -19,7 +19,7 @@ use Rattle.fx_report.specs.Events.{event_line}
 use Rattle.fx_sched.specs.Running.{Running}
 use Rattle.fx_sched.specs.Traced.{IsTraced}
 use Rattle.fx_sched.specs.World.{began, Leads}
-use Rattle.fx_sched.proofs.Runs.{run_same}
+use Rattle.fx_diaries.proofs.Runs.{run_same}
 use Rattle.fx_sched.proofs.Worlds.{run_more}
 use Rattle.fx_watch.specs.Validity.{has_value, DiffersAt}
 use Rattle.fx_watch.specs.WatchView.{WatchView, AnswersFor}

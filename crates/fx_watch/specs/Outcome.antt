@@ -9,7 +9,7 @@ use Rattle.fx_machine.specs.Tried.{retries_of, retry_tree}
 use Rattle.fx_machine.specs.Turns.{FollowsSchedule}
 use Rattle.fx_board.specs.Log.{Log}
 use Rattle.fx_report.specs.Entries.{report}
-use Rattle.fx_sched.specs.Named.{NameConflicts}
+use Rattle.fx_diaries.specs.Named.{NameConflicts}
 use Rattle.fx_watch.specs.Lines.{watched_lines}
 
 -- the events lead from the empty order to this one by the schedule's turns, each conflict names the least path that was changed and

@@ -1,7 +1,1 @@
-mod Orders
-mod Steps
-mod Attempts
-pub mod Looks
-pub mod Gathers
-pub mod Works
 pub mod Crosses

@@ -1,81 +1,45 @@
 //! A run of all scripts of a plan.
-ghost use Rattle.std.specs.Prelude.{◌≡◌, ◌+◌, ◌++◌, ◌≤◌, [], IfOk, OnOk, length, map};
-ghost use Rattle.fx_base.specs.Limits.{shell_limit};
+ghost use Rattle.std.specs.Prelude.{◌≡◌, [], IfOk, OnOk, length, map};
 ghost use Rattle.fx_spec.specs.Bases.{base_tree};
 ghost use Rattle.fx_spec.specs.Order.{IsComplete, RetriesOk};
 ghost use Rattle.fx_machine.specs.Tried.{retry_tree};
-ghost use Rattle.fx_sched.specs.Runs.{IsOfSomeRun};
+ghost use Rattle.fx_diaries.specs.Runs.{IsOfSomeRun};
 ghost use Rattle.fx_turn.specs.Views.{joins};
 ghost use Rattle.fx_turn.specs.Seats.{view};
 ghost use Rattle.fx_shared.specs.Shared.{IsPassOf};
-ghost use Rattle.fx_workers.specs.Crews.{base_of};
-ghost use Rattle.fx_workers.specs.Workers.{AreFresh, IsDone, AreDone, HasGathered, IsMakerOf};
+ghost use Rattle.fx_crew.specs.Crews.{base_of};
+ghost use Rattle.fx_crew.specs.Workers.{IsFresh, AreFresh, IsDoneBy, AreDone, HasGathered, IsMakerOf};
 
-use crate::crew::{Crew, work_all};
-use crate::worker::Worked;
 use fx_base::NoMemory;
 use fx_board::Board;
-use fx_machine::{Retries, Retry};
+use fx_crew::{Crew, Worked, passes_of, take_in, work_on_board};
+use fx_machine::Retries;
 use fx_outside::Gate;
-use fx_shared::{Logged, Pass, Shared};
+use fx_shared::{Pass, Shared};
 use fx_spec::Base;
-use fx_turn::Seat;
-use std::alloc::Global;
+use fx_threads::map_vec;
+use std::alloc::{AllocError, Global};
 use std::sync::{Arc, Wait};
 use std::thread::Threads;
 
-/// A pass for each shell, in order.
-pub fn passes_of<R, G, T: Logged>(
-    crew: &Crew<'_, R, G, T>,
-    maker: &mut Seat<T>,
-) -> Result<Vec<Seat<T>>, NoMemory>
-    requires maker { IsMakerOf (base_of crew.now) crew.now.shares.now maker.old }
-    requires none { (view maker.old).splits ≡ 0 }
-    ensures maker { IsMakerOf (base_of crew.now) crew.now.shares.now maker.new }
-    ensures splits { OnOk result ((view maker.new).splits ≡ length (base_of crew.now).plan) }
-    ensures joined { (view maker.new).joined ≡ (view maker.old).joined }
-    ensures all { IfOk result (λ passes. length passes.items ≡ length (base_of crew.now).plan) }
-    ensures fresh { IfOk result (λ passes.
-        AreFresh (base_of crew.now) crew.now.shares.now passes.items) }
+/// Each script in a thread of its own; where none can be started, the caller's thread does its work.
+fn work_all<R: Threads + Wait + Sync, G: Gate + Sync>(
+    crew: &Crew<'_, R, G, Board>,
+    passes: Vec<Pass>,
+) -> Result<Vec<Result<Worked<Board>, NoMemory>>, AllocError>
+    requires passes { AreFresh (base_of crew.now) crew.now.shares.now passes.items }
+    ensures all { IfOk result (λ all. length all.items ≡ length passes.items) }
+    ensures done { IfOk result (λ all. AreDone (base_of crew.now) crew.now.shares.now all.items) }
 {
-    let mut passes = Vec::new(crew.alloc);
-    for _shell in 0..crew.base.plan.len() {
-        passes.push(crew.shares.pass(maker))?;
-    }
-    Ok(passes)
-}
-
-/// Adds a worker's retries, in order.
-fn add_all(retries: &mut Retries, more: Vec<Retry>) -> Result<(), NoMemory>
-    ensures { OnOk result (retries.new ≡ retries.old ++ more.items) }
-{
-    for retry in more {
-        retries.push(retry)?;
-    }
-    Ok(())
-}
-
-/// Takes in the pass of a worker that is done, and adds its retries.
-pub fn take_in<R, G, T: Logged>(
-    crew: &Crew<'_, R, G, T>,
-    maker: &mut Seat<T>,
-    retries: &mut Retries,
-    worked: Worked<T>,
-) -> Result<(), NoMemory>
-    requires pass { IsPassOf crew.now.shares.now maker.old }
-    requires gathered { HasGathered (base_of crew.now) (view maker.old) retries.old }
-    requires done { IsDone (base_of crew.now) crew.now.shares.now (joins (view maker.old)) worked }
-    ensures pass { IsPassOf crew.now.shares.now maker.new }
-    ensures splits { (view maker.new).splits ≡ (view maker.old).splits }
-    ensures joins { joins (view maker.new) ≡ joins (view maker.old) + 1 }
-    ensures gathered { OnOk result (HasGathered (base_of crew.now) (view maker.new) retries.new) }
-{
-    let Worked {
-        pass,
-        retries: more,
-    } = worked;
-    crew.shares.join(maker, pass);
-    add_all(retries, more)
+    map_vec(
+        crew.rt,
+        passes,
+        &|pass: Pass| -> Result<Worked<Board>, NoMemory>
+            requires { IsFresh (base_of crew.now) crew.now.shares.now pass }
+            ensures { IfOk result
+                (IsDoneBy (base_of crew.entry.now) crew.entry.now.shares.now pass) }
+        { work_on_board(crew, pass) },
+    )
 }
 
 /// Takes in the passes of all workers, and answers their retries by shell.

@@ -25,7 +25,7 @@ use Rattle.fx_durable.specs.Disk.{Step, wrote, File, DiskView, MayLeave, GoesOn,
 use Rattle.fx_durable.specs.Journal.{JournalView}
 use Rattle.fx_durable.proofs.Moments.{goes_over, stays}
 use Rattle.fx_sched.specs.World as World
-use Rattle.fx_sched.proofs.Named.{names_none}
+use Rattle.fx_diaries.proofs.Named.{names_none}
 use Rattle.fx_journaling.specs.declared.fault.RecordFault.TheVariants as fault
 use Rattle.fx_journaling.specs.Kept.{IfFile}
 use Rattle.fx_journaling.specs.Recorded.{IsStarted, KeepsRun, HasRecorded}

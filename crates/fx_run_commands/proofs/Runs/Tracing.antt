@@ -8,11 +8,11 @@ use Rattle.fx_machine.specs.declared.retry.Retry.{Retry}
 use Rattle.fx_machine.specs.Machine.{Run, resting}
 use Rattle.fx_machine.specs.Tried.{retries_of, retry_tree}
 use Rattle.fx_machine.specs.Turns.{FollowsSchedule}
-use Rattle.fx_sched.specs.Runs.{IsOfSomeRun}
+use Rattle.fx_diaries.specs.Runs.{IsOfSomeRun}
 use Rattle.fx_report.specs.Entries.{report}
 use Rattle.fx_report.specs.Events.{lines}
 use Rattle.fx_sched.specs.declared.schedule.Traced.{Traced}
-use Rattle.fx_sched.specs.Named.{NameConflicts}
+use Rattle.fx_diaries.specs.Named.{NameConflicts}
 use Rattle.fx_sched.specs.Traced.{IsTraced}
 use Rattle.fx_words.specs.Job.{Plain, Scheduled}
 use Rattle.fx_run_commands.specs.Runs.Answers.{IsPrintedTrace, IsRunFrom}

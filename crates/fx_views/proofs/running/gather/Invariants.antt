@@ -2,8 +2,8 @@ use Rattle.std.proofs.Common.{◌≡◌, length}
 use Rattle.fx_turn.specs.Seats.{view}
 use Rattle.fx_turn.specs.Views.{joins}
 use Rattle.fx_shared.specs.Shared.{IsPassOf}
-use Rattle.fx_workers.specs.Crews.{base_of}
-use Rattle.fx_workers.specs.Workers.{HasGathered}
+use Rattle.fx_crew.specs.Crews.{base_of}
+use Rattle.fx_crew.specs.Workers.{HasGathered}
 use Rattle.fx_views.proofs.running.gather.Given as goal
 
 abbrev pub invariant-loop-worked : goal.invariant-loop-worked

@@ -2,7 +2,7 @@ use denote.Param.Send.{sendable}
 use Rattle.fx_spec.specs.Bases.{base_tree}
 use Rattle.fx_shared.proofs.Crosses.{Versioned-send}
 use Rattle.fx_turn.specs.Seats.{view}
-use Rattle.fx_sched.proofs.Closing.{run_ok}
+use Rattle.fx_diaries.proofs.Closing.{run_ok}
 use Rattle.fx_views.proofs.Closings.{complete_over, run_over, viewed_over}
 use Rattle.fx_views.proofs.running.run_shared.Goals as goal
 

@@ -2,8 +2,8 @@ use denote.Param.Send.{sendable}
 use Rattle.fx_spec.specs.Bases.{base_tree}
 use Rattle.fx_board.proofs.Crosses.{Board-send}
 use Rattle.fx_turn.specs.Seats.{view}
-use Rattle.fx_sched.proofs.Closing.{run_ok}
-use Rattle.fx_workers.proofs.Gathers.{closes, closes_run}
+use Rattle.fx_diaries.proofs.Closing.{run_ok}
+use Rattle.fx_crew.proofs.Gathers.{closes, closes_run}
 use Rattle.fx_workers.proofs.running.run_shared.Goals as goal
 
 pub new-requires-send-T : goal.new-requires-send-T

@@ -1,4 +1,4 @@
-use Rattle.fx_workers.proofs.Looks.{ready_by}
+use Rattle.fx_crew.proofs.Looks.{ready_by}
 use Rattle.fx_views.proofs.past.Past.into_pass.Goals as goal
 
 pub returns-clause-ready : goal.returns-clause-ready

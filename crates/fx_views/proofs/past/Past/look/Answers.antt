@@ -2,7 +2,7 @@ use denote.Param.Send.{sendable}
 use Rattle.std.proofs.Common.{◌∙◌}
 use Rattle.fx_shared.proofs.Crosses.{Versioned-send}
 use Rattle.fx_turn.specs.Seats.{view}
-use Rattle.fx_workers.proofs.Looks.{ready_by, some_base}
+use Rattle.fx_crew.proofs.Looks.{ready_by, some_base}
 use Rattle.fx_views.proofs.Pasts.{at_on, within_on}
 use Rattle.fx_views.proofs.past.Past.look.Goals as goal
 

@@ -1,0 +1,10 @@
+pub mod Attempting
+pub mod Closing
+mod Following
+pub mod Growing
+pub mod Looks
+mod Merging
+pub mod Named
+mod Naming
+pub mod Positions
+pub mod Runs

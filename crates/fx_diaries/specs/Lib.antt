@@ -1,0 +1,6 @@
+pub mod Diaries
+pub mod Laws
+pub mod Looks
+pub mod Named
+pub mod Positions
+pub mod Runs

@@ -1,5 +1,0 @@
-use Rattle.fx_sched.proofs.Closing.{diaries_make_runs}
-use Rattle.fx_sched.proofs.laws.diaries_make_runs.Goals as goal
-
-pub returns : goal.returns
-returns c = diaries_make_runs

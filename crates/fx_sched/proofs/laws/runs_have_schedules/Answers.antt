@@ -1,5 +1,0 @@
-use Rattle.fx_sched.proofs.Following.{runs_have_schedules}
-use Rattle.fx_sched.proofs.laws.runs_have_schedules.Goals as goal
-
-pub returns : goal.returns
-returns c = runs_have_schedules
