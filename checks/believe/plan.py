@@ -389,7 +389,7 @@ LAWS_AT = {
     "fx_laws::tokens::one_reading": "Texts: tokens and trees",
     "fx_lex::lexer::one_reading": "Texts: tokens and trees",
     "fx_parse::laws::one_reading": "Texts: tokens and trees",
-    "fx_expr::evaluation::a_value_has_its_expressions_shape": "Expressions",
+    "fx_expr::laws::a_value_has_its_expressions_shape": "Expressions",
     "fx_spec::laws::a_call_stands_for_its_body": "Values of descriptions",
     "fx_spec::shapes::a_described_value_has_its_shape": "Values of descriptions",
     "fx_spec::shapes::a_root_value_has_its_shape": "Values of descriptions",

@@ -1,5 +1,6 @@
 //! The values of a description's expressions without names, each evaluated once.
 ghost use Rattle.std.specs.Prelude.{◌≡◌, All, IfOk, List};
+ghost use Rattle.fx_expr.specs.Closed.{IsShaped};
 ghost use Rattle.fx_spec.specs.DefViews.{def_tree};
 ghost use Rattle.fx_spec.specs.Views.{spec_tree};
 ghost use Rattle.fx_spec.specs.Written.{DefTree};
@@ -7,7 +8,8 @@ ghost use Rattle.fx_spec.specs.WellShaped.{IsWritten, Scope};
 ghost use Rattle.fx_check.specs.Fitting.{IsFitting};
 
 use fx_base::NoMemory;
-use fx_spec::{Def, Defs, Spec};
+use fx_eval::settled_formula;
+use fx_spec::{Def, Defs, Exprs, Spec};
 use std::alloc::Global;
 
 /// An equal description, in which the value of each expression without names stands beside it.
@@ -21,7 +23,7 @@ pub(crate) fn settled(alloc: Global, spec: Spec) -> Result<Spec, NoMemory>
         Spec::Dir => Ok(Spec::Dir),
         Spec::Link => Ok(Spec::Link),
         Spec::Focus(text, part) => {
-            let text = text.settled(alloc)?;
+            let text = settled_formula(alloc, text)?;
             Ok(Spec::Focus(text, settled_part(alloc, part)?))
         }
         Spec::Pair(word, first, second) => {
@@ -29,12 +31,12 @@ pub(crate) fn settled(alloc: Global, spec: Spec) -> Result<Spec, NoMemory>
             Ok(Spec::Pair(word, first, settled_part(alloc, second)?))
         }
         Spec::Comp(part, word, set) => {
-            let set = set.settled(alloc)?;
+            let set = settled_formula(alloc, set)?;
             Ok(Spec::Comp(settled_part(alloc, part)?, word, set))
         }
         Spec::Opt(part) => Ok(Spec::Opt(settled_part(alloc, part)?)),
-        Spec::Pred(test) => Ok(Spec::Pred(test.settled(alloc)?)),
-        Spec::Call(name, args) => Ok(Spec::Call(name, args.settled(alloc)?)),
+        Spec::Pred(test) => Ok(Spec::Pred(settled_formula(alloc, test)?)),
+        Spec::Call(name, args) => Ok(Spec::Call(name, settled_args(alloc, args)?)),
     }
 }
 
@@ -46,6 +48,18 @@ fn settled_part(alloc: Global, part: Box<Spec>) -> Result<Box<Spec>, NoMemory>
 {
     let part = settled(alloc, Box::into_inner(part))?;
     Ok(Box::new(alloc, part)?)
+}
+
+/// Equal arguments, each of them settled.
+fn settled_args(alloc: Global, args: Exprs) -> Result<Exprs, NoMemory>
+    requires { All IsShaped args }
+    ensures { IfOk result (λ settled. settled ≡ args) }
+{
+    let mut settled = Exprs::new(alloc);
+    for formula in args.into_vec() {
+        settled.add(alloc, settled_formula(alloc, formula)?)?;
+    }
+    Ok(settled)
 }
 
 fn settled_def(alloc: Global, def: Def) -> Result<Def, NoMemory>

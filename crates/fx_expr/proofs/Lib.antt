@@ -1,6 +1,4 @@
 pub mod Bound
-pub mod Closing
-pub mod Globbing
 pub mod Numerals
 mod Sameness
 pub mod Shaping

@@ -4,7 +4,6 @@ ghost use Rattle.std.specs.Slice.Iter.{iter_rest};
 ghost use Rattle.fx_expr.specs.Bindings.{bound, assigned, IsNewest};
 ghost use Rattle.fx_expr.specs.Views.{entry_tree, tree_of};
 
-use crate::parts::let_go;
 use crate::value::Value;
 use crate::word::Word;
 use fx_base::NoMemory;
@@ -144,6 +143,9 @@ fn newest(bindings: &[(Word, Value)], word: &Word) -> Option<usize>
     }
     None
 }
+
+// One drop of a value in place of one at each way out.
+fn let_go(_value: Value) {}
 
 fn put(bindings: &mut Vec<(Word, Value)>, i: usize, value: Value)
     requires { i < length bindings.old.items }

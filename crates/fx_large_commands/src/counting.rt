@@ -6,7 +6,8 @@ ghost use Rattle.fx_expr.specs.Views.{expr_tree, tree_of};
 ghost use Rattle.fx_large_commands.specs.Summary.{int_of, integer_or_zero, counted_at, logged_at, counted_in, logged_in, node_count};
 
 use fx_base::{NoMemory, Steps};
-use fx_expr::{Env, EvalFault, Expr, Text, UnOp, Value, eval};
+use fx_eval::eval;
+use fx_expr::{Env, EvalFault, Expr, Text, UnOp, Value};
 use fx_gen::{PROJECTS, project_entry};
 use fx_store::{Filestore, Node, Path};
 use std::alloc::Global;

@@ -6,7 +6,8 @@ ghost use Rattle.fx_expr.specs.Shapes.{IsWellShaped};
 ghost use Rattle.fx_expr.specs.Views.{expr_tree, tree_of};
 
 use fx_base::Steps;
-use fx_expr::{Env, EvalFault, Expr, Value, eval};
+use fx_eval::eval;
+use fx_expr::{Env, EvalFault, Expr, Value};
 use std::alloc::Global;
 use std::marker::Brand;
 use std::sync::ledger::{Blank, Ledger};

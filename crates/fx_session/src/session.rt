@@ -9,7 +9,8 @@ ghost use Rattle.fx_expr.specs.Views.{expr_tree, tree_of};
 ghost use Rattle.fx_session.specs.Implements.{Implements, ticked};
 
 use fx_base::Steps;
-use fx_expr::{Env, EvalFault, Expr, Formula, Value, eval};
+use fx_eval::{eval, eval_formula};
+use fx_expr::{Env, EvalFault, Expr, Formula, Value};
 use fx_store::{Node, Path};
 use fx_view::{Landing, Overlay, Reader, Stop, look, resolve};
 use std::alloc::Global;
@@ -55,6 +56,6 @@ impl<'a, R: Reader, L: Ledger> Session<'a, R, L> {
         ensures value { Gives tree_of result (eval_of env.now formula.now) }
         ensures tick { self.new ≡ ticked self.old }
     {
-        formula.eval(self.alloc, env, &mut self.steps)
+        eval_formula(self.alloc, formula, env, &mut self.steps)
     }
 }

@@ -1,7 +1,6 @@
-ghost use Rattle.std.specs.Prelude.{◌≡◌, ◌++◌, [], ◌∷◌, All, IfOk, OnOk, OnErr, length, slice_get};
+ghost use Rattle.std.specs.Prelude.{◌≡◌, ◌++◌, [], ◌∷◌, OnOk, OnErr, length, slice_get};
 ghost use Rattle.std.specs.Slice.Iter.{iter_rest};
 ghost use Rattle.std.specs.Option.{option_map};
-ghost use Rattle.fx_expr.specs.Closed.{IsShaped};
 
 use fx_base::NoMemory;
 use fx_expr::Formula;
@@ -66,17 +65,12 @@ impl Exprs {
         self.items.iter()
     }
 
-    /// The same expressions, each of them settled.
-    pub fn settled(self, alloc: Global) -> Result<Exprs, NoMemory>
-        requires { All IsShaped self }
-        ensures { IfOk result (λ settled. settled ≡ self) }
+    /// The expressions themselves, from the first.
+    pub fn into_vec(self) -> Vec<Formula>
+        ensures { result.items ≡ self }
     {
         let Exprs { items } = self;
-        let mut settled = Vec::new(alloc);
-        for formula in items {
-            settled.push(formula.settled(alloc)?)?;
-        }
-        Ok(Exprs { items: settled })
+        items
     }
 
     /// Adds an expression at the end. A refusal changes nothing.

@@ -5,7 +5,8 @@ ghost use Rattle.fx_expr.specs.Shapes.{HasShape};
 ghost use Rattle.fx_expr.specs.Views.{expr_tree};
 
 use fx_base::NoMemory;
-use fx_expr::{BinOp, Env, EvalFault, Expr, TEXT_LIMIT, Text, UnOp, Value, matches};
+use fx_eval::matches;
+use fx_expr::{BinOp, Env, EvalFault, Expr, TEXT_LIMIT, Text, UnOp, Value};
 use fx_report::value_line;
 use fx_session::evaluated;
 use std::alloc::Global;
