@@ -19,7 +19,8 @@ use Rattle.fx_machine.specs.Machine.{Machine, Look, Run, Step, looks_of, next_nu
 use Rattle.fx_machine.proofs.Reached.{none_looked}
 use Rattle.fx_machine.proofs.Turning.{runs_on, settled_by, settled_cons, next_counts}
 use Rattle.fx_diaries.specs.Named.{NamesConflict, NameConflicts}
-use Rattle.fx_diaries.proofs.Naming.{NamesAll, name_on, name_conflicts, same_run, same_step}
+use Rattle.fx_diaries.proofs.Naming.{NamesAll, name_on, name_conflicts}
+use Rattle.fx_diaries.proofs.Runs.{step_same, run_same}
 use Rattle.fx_diaries.specs.Diaries.{LooksNext, StartsAgain, DoesInShell, DoesAll, MaySettle, Diary, retries_at}
 
 -- ---- one shell, while the order stays
@@ -67,7 +68,7 @@ done base m shell looks looks' (e ∷ events) within is (between, does, rest) =
     record {
       after = later.after;
       run = (m1, step_of base m shell looks between e is does, later.run);
-      named = (names_of base m shell looks between e is does, λ m2 step. subst (λ m. NamesAll base m events) (same_step base m e m1 m2 (step_of base m shell looks between e is does) step) later.named);
+      named = (names_of base m shell looks between e is does, λ m2 step. subst (λ m. NamesAll base m events) (step_same base m m1 m2 e (step_of base m shell looks between e is does) step) later.named);
       order = later.order;
       count = later.count ∙ length-set m.looks shell between;
       own = later.own;
@@ -166,7 +167,7 @@ module _ (base : BaseTree) (o : List Turn) (retries : ℕ → List Retry) (diary
         events = r.events ++ t.events time;
         m = d.after;
         run = runs_on base (resting base []) r.events r.m (t.events time) d.after r.run d.run;
-        named = name_on base (resting base []) r.events (t.events time) r.named (λ m2 ran. subst (λ m. NamesAll base m (t.events time)) (same_run base (resting base []) r.events r.m m2 r.run ran) d.named);
+        named = name_on base (resting base []) r.events (t.events time) r.named (λ m2 ran. subst (λ m. NamesAll base m (t.events time)) (run_same base (resting base []) r.m m2 r.events r.run ran) d.named);
         order = d.order ∙ r.order;
         shells = d.count ∙ r.shells;
         past = λ k l h. ⊎_elim

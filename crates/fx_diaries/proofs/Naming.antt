@@ -1,21 +1,10 @@
--- What the conflicts among some events name, in the states to which the events lead; no event leads to two states.
-use Rattle.std.proofs.Common.{◌≡◌, List, [], ◌∷◌, ◌++◌, refl, sym, subst, ◌∙◌}
+-- What the conflicts among some events name, in the states to which the events lead.
+use Rattle.std.proofs.Common.{◌≡◌, List, [], ◌∷◌, ◌++◌, refl, subst}
 use Rattle.std.specs.Prelude.{⊤}
 use Rattle.fx_spec.specs.Order.{BaseTree}
 use Rattle.fx_machine.specs.declared.event.Event.{Event}
-use Rattle.fx_machine.specs.declared.event.Event.TheVariants as event
 use Rattle.fx_machine.specs.Machine.{Machine, Run, Step}
 use Rattle.fx_diaries.specs.Named.{NamesConflict, NameConflicts}
-
-pub same_step : (base : BaseTree) (m : Machine) (e : Event) (a b : Machine) → Step base m e a → Step base m e b → a ≡ b
-same_step base m (event.Look shell path position) a b one two = one.after ∙ sym two.after
-same_step base m (event.Settled shell entry) a b one two = one.after ∙ sym two.after
-same_step base m (event.Conflict shell entry path) a b one two = one.after ∙ sym two.after
-
-pub same_run : (base : BaseTree) (m : Machine) (events : List Event) (a b : Machine) → Run base m events a → Run base m events b → a ≡ b
-same_run base m [] a b one two = sym one ∙ two
-same_run base m (e ∷ events) a b one two =
-    same_run base one.0 events a b one.2 (subst (λ m. Run base m events b) (same_step base m e two.0 one.0 two.1 one.1) two.2)
 
 -- each conflict names what it is to name
 abbrev pub NamesAll : BaseTree → Machine → List Event → Type 0
