@@ -7,8 +7,8 @@ use Rattle.fx_spec.specs.Written.{WrittenTree}
 use Rattle.fx_check.proofs.Checking.{arguments_shaped}
 use Rattle.fx_check.proofs.settling.+settled.Goals as goal
 
-pub settled-settled_args-requires-in-Call : goal.settled-settled_args-requires-in-Call
-settled-settled_args-requires-in-Call t c =
+pub settled-settled_args-requires : goal.settled-settled_args-requires
+settled-settled_args-requires t c =
     let args : List ExprTree = c.in-Call.args in
     let tree : spec_tree c.args.spec ≡ WrittenTree.call c.in-Call.name args = search (rules, the_lemmas) in
     let call : IsCall c.requires.0 c.requires.1 c.in-Call.name args = subst (λ w. IsWritten c.requires.0 c.requires.1 w) tree c.requires.2 in
