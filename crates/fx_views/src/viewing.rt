@@ -12,6 +12,7 @@ ghost use Rattle.fx_views.specs.Viewing.{AreAlike, IsOnlooker, HasLookedOn, IsVi
 use crate::past::{Past, SnapPass};
 use fx_base::NoMemory;
 use fx_board::answer_of;
+use fx_crew::Crew;
 use fx_machine::Attempt;
 use fx_outside::{Gate, Moment};
 use fx_report::{View, Viewed};
@@ -19,7 +20,6 @@ use fx_run::run;
 use fx_shared::Versioned;
 use fx_spec::Base;
 use fx_view::Stop;
-use fx_crew::Crew;
 use std::sync::{Arc, Wait};
 
 /// The worker of the views between two of them: its pass, and what was viewed.
