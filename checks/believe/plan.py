@@ -10,7 +10,7 @@ from __future__ import annotations
 from typing import NamedTuple
 
 WATCHED = "fx_watch.Outcome.IsWatchedAs"
-TRACED = "fx_run_commands.Runs.Outcome.IsTracedAs"
+TRACED = "fx_report.Traced.IsTracedAs"
 DONE = "fx_command.Table.IsMade"
 HEADLINE = "fx_run_commands.Runs.Rows.run_making"
 TOP = ("fx_top", "top")
@@ -271,7 +271,7 @@ SECTIONS = (
         "What is left of `run`, status 0",
         "With these the definitions of status 0 of `run` are complete.",
         (DONE, HEADLINE),
-        ("fx_run_commands.Runs.Outcome.IsBehindSomeTrace",),
+        ("fx_report.Traced.IsBehindSomeTrace",),
     ),
     Section(
         "`watch`",

@@ -3,3 +3,4 @@ pub mod Rows
 pub mod Spelling
 pub mod Steps
 pub mod Logs
+pub mod Tracing

@@ -4,3 +4,4 @@ pub mod Report
 pub mod Views
 pub mod Entries
 pub mod Events
+pub mod Traced

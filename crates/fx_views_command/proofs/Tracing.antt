@@ -10,7 +10,7 @@ use Rattle.fx_diaries.specs.Runs.{IsOfSomeRun}
 use Rattle.fx_report.specs.declared.printed.View.{View}
 use Rattle.fx_report.specs.Entries.{report}
 use Rattle.fx_report.specs.Views.{views_text}
-use Rattle.fx_run_commands.proofs.Runs.Tracing.{behind_some_trace}
+use Rattle.fx_report.proofs.Tracing.{behind_some_trace}
 use Rattle.fx_views.specs.Views.{AreViews}
 use Rattle.fx_views_command.specs.Answers.{IsViewsRunFrom}
 

@@ -9,8 +9,8 @@ use Rattle.fx_machine.specs.Tried.{retry_tree}
 use Rattle.fx_board.specs.Board.{last_state}
 use Rattle.fx_report.specs.declared.printed.View.{View}
 use Rattle.fx_report.specs.Entries.{report}
+use Rattle.fx_report.specs.Traced.{IsBehindSomeTrace}
 use Rattle.fx_report.specs.Views.{views_text}
-use Rattle.fx_run_commands.specs.Runs.Outcome.{IsBehindSomeTrace}
 use Rattle.fx_views.specs.Views.{AreViews}
 use Rattle.fx_views_command.specs.declared.viewing.Answer.{Answer}
 

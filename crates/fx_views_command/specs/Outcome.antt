@@ -9,9 +9,9 @@ use Rattle.fx_machine.specs.declared.retry.Retry.{Retry}
 use Rattle.fx_machine.specs.Tried.{retry_tree}
 use Rattle.fx_report.specs.declared.printed.View.{View}
 use Rattle.fx_report.specs.Entries.{report}
+use Rattle.fx_report.specs.Traced.{IsBehindSomeTrace}
 use Rattle.fx_report.specs.Views.{views_text}
 use Rattle.fx_inputs.specs.Inputs.{HasBase, HasScript}
-use Rattle.fx_run_commands.specs.Runs.Outcome.{IsBehindSomeTrace}
 use Rattle.fx_views.specs.Views.{AreViews}
 use Rattle.fx_words.specs.Job.{ViewsJob}
 

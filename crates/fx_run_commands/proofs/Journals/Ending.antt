@@ -30,7 +30,8 @@ use Rattle.fx_inputs.proofs.ReadRows.{inputs_steady}
 use Rattle.fx_inputs.proofs.Stages.{has_inputs, has_inputs_told}
 use Rattle.fx_command.specs.Out.{IsUnready}
 use Rattle.fx_words.specs.Job.{RunJob, JournalJob, Scheduled, shells_of}
-use Rattle.fx_run_commands.specs.Runs.Outcome.{IsPrintedAs, IsTracedAs}
+use Rattle.fx_report.specs.Traced.{IsTracedAs}
+use Rattle.fx_run_commands.specs.Runs.Outcome.{IsPrintedAs}
 use Rattle.fx_run_commands.specs.Runs.Rows.{run_making, run_command}
 use Rattle.fx_durable.specs.Disk.{DiskView}
 use Rattle.fx_journaling.specs.declared.fault.RecordFault.{RecordFault}

@@ -1,5 +1,5 @@
 -- A run on threads is a whole run, and some trace. A run by a schedule is a whole run.
-use Rattle.std.proofs.Common.{◌≡◌, List, [], ◌++◌, ℕ, map, refl, sym, ap, subst}
+use Rattle.std.proofs.Common.{◌≡◌, List, [], ℕ, map, refl, sym, subst}
 use Rattle.fx_spec.specs.Plans.{Turn}
 use Rattle.fx_spec.specs.Order.{BaseTree, IsComplete, RetriesOk}
 use Rattle.fx_board.specs.Board.{last_state}
@@ -10,21 +10,12 @@ use Rattle.fx_machine.specs.Tried.{retries_of, retry_tree}
 use Rattle.fx_machine.specs.Turns.{FollowsSchedule}
 use Rattle.fx_diaries.specs.Runs.{IsOfSomeRun}
 use Rattle.fx_report.specs.Entries.{report}
-use Rattle.fx_report.specs.Events.{lines}
 use Rattle.fx_sched.specs.declared.schedule.Traced.{Traced}
 use Rattle.fx_diaries.specs.Named.{NameConflicts}
 use Rattle.fx_sched.specs.Traced.{IsTraced}
 use Rattle.fx_words.specs.Job.{Plain, Scheduled}
 use Rattle.fx_run_commands.specs.Runs.Answers.{IsPrintedTrace, IsRunFrom}
-use Rattle.fx_run_commands.specs.Runs.Outcome.{IsBehindSomeTrace}
-
-pub behind_some_trace : (base : BaseTree) (order : List Turn) (retries : List Retry) (output : List ℕ) → IsOfSomeRun base order retries → output ≡ report base order retries → IsBehindSomeTrace base order retries output
-behind_some_trace base order retries output ran is = (
-  ran.schedule,
-  lines ran.events,
-  ran.shells,
-  record { events = ran.events; run = ran.run; turns = ran.turns; named = ran.named; conflicts = ran.conflicts; printed = ap (λ text. lines ran.events ++ text) is },
-)
+use Rattle.fx_report.proofs.Tracing.{behind_some_trace}
 
 pub threaded_run : (base : BaseTree) (board : Log) (retries : List Retry) (output : List ℕ) → board.base ≡ base → IsComplete board.base board.order → RetriesOk board.base board.order (map retry_tree retries) → IsOfSomeRun board.base board.order retries → output ≡ report board.base board.order retries → IsRunFrom base Plain (last_state board) output
 threaded_run base board retries output begun complete tried ran is =

@@ -1,5 +1,5 @@
 -- What a run comes to: the output, and the last filestore.
-use Rattle.std.specs.Prelude.{◌≡◌, ℕ, ◌<◌, List, ◌++◌, All, map, length}
+use Rattle.std.specs.Prelude.{◌≡◌, ℕ, List, map, length}
 use Rattle.fx_store.specs.Whole.{Nodes}
 use Rattle.fx_outside.specs.Tree.{Tree}
 use Rattle.fx_spec.specs.Plans.{Turn}
@@ -7,18 +7,10 @@ use Rattle.fx_spec.specs.Order.{BaseTree, IsComplete, RetriesOk, state}
 use Rattle.fx_machine.specs.declared.retry.Retry.{Retry}
 use Rattle.fx_machine.specs.Tried.{retry_tree}
 use Rattle.fx_report.specs.Entries.{report}
-use Rattle.fx_report.specs.Events.{lines}
-use Rattle.fx_watch.specs.Outcome.{IsTracedBy, IsWatchedAs}
+use Rattle.fx_report.specs.Traced.{IsTracedAs, IsBehindSomeTrace}
+use Rattle.fx_watch.specs.Outcome.{IsWatchedAs}
 use Rattle.fx_words.specs.Job.{RunJob, Mode, Plain, Scheduled, Watched}
 use Rattle.fx_inputs.specs.Inputs.{HasBase}
-
--- the events of a run by the schedule are printed before the report, a line for each
-abbrev pub IsTracedAs : BaseTree → List ℕ → List Turn → List Retry → List ℕ → Type 0
-IsTracedAs base schedule order retries output = IsTracedBy lines base schedule order retries output
-
--- there is a schedule of the plan's shells by which `trace` may print this behind the lines of its events, of a run to the same order
-abbrev pub IsBehindSomeTrace : BaseTree → List Turn → List Retry → List ℕ → Type 0
-IsBehindSomeTrace base order retries output = (schedule : List ℕ) × (lines_before : List ℕ) × All (λ shell. shell < length base.plan) schedule × IsTracedAs base schedule order retries (lines_before ++ output)
 
 -- the report alone, which some `trace` prints too; or the events and the report, with what is said of the tree after each commit
 -- where it is watched
