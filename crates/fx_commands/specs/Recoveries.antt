@@ -3,3 +3,4 @@ pub mod Recovered
 pub mod Rows
 pub mod Stages
 pub mod Unread
+pub mod Wrong

@@ -10,9 +10,10 @@ use Rattle.fx_spec.specs.Plans.{Turn}
 use Rattle.fx_spec.specs.Order.{BaseTree, IsLegal}
 use Rattle.fx_durable.specs.Disk.{Step, File, MayLeave, LeftSince, GoesOn, LeavesOnly, StaysTold, moment}
 use Rattle.fx_durable.specs.Journal.{RestsAt, Spells, IsBeforeOrAfter}
+use Rattle.fx_durable.specs.Legal.{SpellsLegal}
 use Rattle.fx_durable.proofs.Moments.{since_before, goes_over}
 use Rattle.fx_durable.proofs.Records.{spells_closed}
-use Rattle.fx_journaling.specs.Kept.{SpellsLegal, SpellsFront, LeavesEither, HoldsOrder, IfFile, MayJoinOrder, order_seen}
+use Rattle.fx_journaling.specs.Kept.{SpellsFront, LeavesEither, HoldsOrder, IfFile, MayJoinOrder, order_seen}
 
 -- what a crash leaves now it leaves since any moment
 pub at_present : (start : ℕ) (steps : List Step) (image : List ℕ) → MayLeave steps image → LeftSince start steps image

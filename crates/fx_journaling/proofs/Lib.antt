@@ -4,5 +4,4 @@ pub mod Taking
 mod Naming
 mod Renaming
 pub mod Ending
-pub mod Legal
 pub mod Fronts

@@ -7,12 +7,8 @@ use Rattle.fx_base.specs.Limits.{txn_limit}
 use Rattle.fx_spec.specs.Plans.{Turn}
 use Rattle.fx_spec.specs.Order.{BaseTree, IsLegal}
 use Rattle.fx_durable.specs.Disk.{File, DiskView, MayLeave, LeftSince, GoesOn, AsksChosen, moment}
-use Rattle.fx_durable.specs.Journal.{JournalView, RestsAt, Spells, reading}
-
--- the image spells this order, which is legal
-pub record SpellsLegal (base : BaseTree) (order : List Turn) (image : List ℕ) : Type 0 where
-  pub spells : Spells order image
-  pub legal : IsLegal base order
+use Rattle.fx_durable.specs.Journal.{JournalView, RestsAt, reading}
+use Rattle.fx_durable.specs.Legal.{SpellsLegal}
 
 -- the image spells a front of this order, which is legal
 pub record SpellsFront (base : BaseTree) (order : List Turn) (image : List ℕ) : Type 0 where

@@ -8,7 +8,8 @@ use Rattle.fx_words.specs.Job.{RecoverJob}
 use Rattle.fx_inputs.specs.Inputs.{HasBase}
 use Rattle.fx_durable.specs.Disk.{File, DiskView}
 use Rattle.fx_durable.specs.Journal.{Spells}
-use Rattle.fx_journaling.specs.Kept.{SpellsLegal, SpellsFront}
+use Rattle.fx_durable.specs.Legal.{SpellsLegal}
+use Rattle.fx_journaling.specs.Kept.{SpellsFront}
 use Rattle.fx_commands.specs.Recoveries.Recovered.{IsRecoveryOutcome, recovered_line}
 use Rattle.fx_laws_above.specs.Recovering.{IsAfter, GivesTold, RecoversTold, RecoversFront}
 

@@ -13,10 +13,10 @@ use Rattle.fx_inputs.specs.Reads.{IsProperRun}
 use Rattle.fx_inputs.proofs.Readings.{inputs_all_read}
 use Rattle.fx_words.specs.Job.{RecoverJob}
 use Rattle.fx_durable.specs.Disk.{DiskView, TellsOther, FailsAt}
-use Rattle.fx_journaling.specs.Laws.{GoesWrong}
-use Rattle.fx_journaling.proofs.Legal.{legal_images_are_good}
 use Rattle.fx_commands.specs.Recoveries.Recovered.{IsBad}
 use Rattle.fx_commands.specs.Recoveries.Rows.{journal_reading, recover_command, RecoverRow, HasJournal}
+use Rattle.fx_commands.specs.Recoveries.Wrong.{GoesWrong}
+use Rattle.fx_commands.proofs.Recoveries.Legal.{legal_images_are_good}
 
 -- ---- a journal that spells a legal order
 

@@ -8,10 +8,10 @@ use Rattle.fx_durable.specs.Disk.{DiskView, TellsAt}
 use Rattle.fx_durable.specs.Journal.{Breaks, ReadsOrder, HasJournalFault, IsCalm}
 use Rattle.fx_durable.specs.declared.journal_fault.JournalFault.{JournalFault}
 use Rattle.fx_durable.specs.declared.journal_fault.JournalFault.TheVariants as fault
-use Rattle.fx_journaling.specs.Laws.{GoesWrong}
 use Rattle.fx_commands.specs.Recoveries.Recovered.{HasImage}
 use Rattle.fx_commands.specs.Recoveries.Rows.{StaysCalm}
 use Rattle.fx_commands.specs.Recoveries.Unread.{journal_status, OrderCause}
+use Rattle.fx_commands.specs.Recoveries.Wrong.{GoesWrong}
 
 pub has_image : (path : List ℕ) (disk : DiskView) (P : List ℕ → Type 0) → TellsAt disk path → IfSome disk.told (λ file. P file.seen) → HasImage path disk P
 has_image path disk P at such = if_some_both (λ file. file.path ≡ path) (λ file. P file.seen) (λ file. (file.path ≡ path) × P file.seen) disk.told (λ file at such. (at, such)) at such

@@ -10,7 +10,7 @@ use Rattle.fx_words.specs.Job.{RecoverJob}
 use Rattle.fx_inputs.specs.Inputs.{HasBase, IsOnlyBase}
 use Rattle.fx_durable.specs.Disk.{DiskView}
 use Rattle.fx_durable.specs.Journal.{Spells}
-use Rattle.fx_journaling.specs.Laws.{GoesWrong}
+use Rattle.fx_commands.specs.Recoveries.Wrong.{GoesWrong}
 
 -- the line that is printed after so many transactions
 abbrev pub recovered_line : ℕ → List ℕ

@@ -6,8 +6,8 @@ use Rattle.fx_command.specs.declared.status.Status.TheVariants as status
 use Rattle.fx_durable.specs.Disk.{DiskView, FailsAt}
 use Rattle.fx_durable.specs.declared.journal_fault.JournalFault.{JournalFault}
 use Rattle.fx_durable.specs.declared.journal_fault.JournalFault.TheVariants as fault
-use Rattle.fx_journaling.specs.Laws.{GoesWrong}
 use Rattle.fx_commands.specs.Recoveries.Recovered.{HasImage}
+use Rattle.fx_commands.specs.Recoveries.Wrong.{GoesWrong}
 
 abbrev pub journal_status : JournalFault → Status
 journal_status (fault.Broken place) = status.BadJournal place

@@ -4,10 +4,10 @@ use Rattle.fx_spec.specs.Bases.{base_tree}
 use Rattle.fx_spec.specs.Order.{IsLegal}
 use Rattle.fx_command.proofs.Told.{if_some_map}
 use Rattle.fx_durable.specs.Journal.{turns_of, Spells}
-use Rattle.fx_journaling.specs.Laws.{GoesWrong}
 use Rattle.fx_audit.specs.Legal.{IsFirstIllegal}
 use Rattle.fx_commands.specs.Recoveries.Rows.{StaysCalm}
 use Rattle.fx_commands.specs.Recoveries.Unread.{OrderCause}
+use Rattle.fx_commands.specs.Recoveries.Wrong.{GoesWrong}
 use Rattle.fx_commands.proofs.Recoveries.Reading.{has_image, unread_cause, unread_calm}
 use Rattle.fx_commands.proofs.recovering.journal.read_order.Goals as goal
 

@@ -4,7 +4,7 @@ use Rattle.fx_spec.specs.Plans.{Turn}
 use Rattle.fx_spec.specs.Order.{IsLegal}
 use Rattle.fx_durable.specs.Journal.{Spells, Breaks}
 use Rattle.fx_audit.proofs.Legal.{legal_take}
-use Rattle.fx_journaling.specs.Laws.{LegalImagesAreGood}
+use Rattle.fx_commands.specs.Recoveries.Wrong.{LegalImagesAreGood}
 
 not_broken : (order : List Turn) (image : List ℕ) (place : ℕ) → Spells order image → Breaks place image → ⊥
 not_broken order image place spells broken = let both : Err place ≡ Ok order = sym broken ∙ spells in cc
