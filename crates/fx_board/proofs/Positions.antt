@@ -8,7 +8,7 @@ use Rattle.fx_store.specs.Names.{IsPath, path_cmp}
 use Rattle.fx_store.specs.Orders.{path_total}
 use Rattle.fx_view.specs.ReadList.{ReadList}
 use Rattle.fx_view.specs.Reads.{read_at}
-use Rattle.fx_diaries.specs.Positions.{InTurn}
+use Rattle.fx_board.specs.Positions.{InTurn}
 
 abbrev Path : Type 0
 Path = List (List ℕ)
