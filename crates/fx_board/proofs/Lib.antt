@@ -4,3 +4,5 @@ pub mod Settling
 pub mod Empty
 pub mod Crosses
 pub mod Refused
+pub mod Counts
+pub mod Positions

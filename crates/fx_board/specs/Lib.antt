@@ -2,3 +2,4 @@ pub mod Log
 pub mod Index
 pub mod Board
 pub mod Growing
+pub mod Positions

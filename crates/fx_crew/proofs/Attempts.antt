@@ -7,8 +7,8 @@ use Rattle.fx_machine.specs.Explained.{IsExplained}
 use Rattle.fx_machine.specs.Needs.{Foretells}
 use Rattle.fx_shared.specs.Passes.{LogView}
 use Rattle.fx_shared.proofs.Truths.{begins_short}
-use Rattle.fx_diaries.proofs.Positions.{in_turn_from}
-use Rattle.fx_crew.specs.Live.{Vouches}
+use Rattle.fx_board.proofs.Positions.{in_turn_from}
+use Rattle.fx_shared.specs.Live.{Vouches}
 use Rattle.fx_crew.specs.Working.{HasTried}
 
 pub tried_by : (base : BaseTree) (shell txn : ℕ) (start now v w : LogView) (before : ReadList) (a : Attempt) → v ≡ start → w ≡ now → before ≡ [] → a.shell ≡ shell → a.txn ≡ txn → IsExplained base a → Foretells base (shell, txn) before a.reads → Vouches v w before a.reads → HasTried base shell txn start now a

@@ -1,11 +1,11 @@
 -- What one attempt makes of a worker.
-use Rattle.std.proofs.Common.{◌≡◌, ◌⊎◌, inl, inr, ℕ, suc, zero, ◌+◌, ◌<◌, ◌≤◌, List, [], ◌∷◌, ◌++◌, length, take, slice_get, Some, refl, sym, ap, subst, ◌∙◌, arith, length-append}
+use Rattle.std.proofs.Common.{◌≡◌, ◌⊎◌, inl, inr, ℕ, suc, ◌+◌, ◌<◌, ◌≤◌, List, [], ◌∷◌, ◌++◌, length, take, slice_get, Some, refl, sym, ap, subst, ◌∙◌, arith, length-append}
 use Rattle.std.specs.List.{sum_by}
 use Rattle.std.proofs.lemmas.List.{take_all, take-append-le}
 use Rattle.std.proofs.lemmas.Option.{same_Some}
 use Rattle.fx_base.proofs.Lists.{at_middle}
 use Rattle.fx_spec.specs.CommandTree.{CommandTree}
-use Rattle.fx_spec.specs.Plans.{Turn, count_of, txn_of}
+use Rattle.fx_spec.specs.Plans.{Turn, txn_of}
 use Rattle.fx_spec.specs.Order.{BaseTree, IsLegal}
 use Rattle.fx_machine.specs.declared.attempt.Attempt.{Attempt}
 use Rattle.fx_machine.specs.declared.retry.Retry.{Retry}
@@ -15,19 +15,19 @@ use Rattle.fx_machine.specs.Passes.{AreTrueReads}
 use Rattle.fx_board.specs.Board.{IsFreshReads, IsNamed}
 use Rattle.fx_diaries.proofs.Looks.{all_read}
 use Rattle.fx_turn.specs.Histories.{Begins}
-use Rattle.fx_turn.proofs.Growth.{begins_on, begins_more, begins_same}
+use Rattle.fx_turn.proofs.Growth.{begins_on, begins_more}
 use Rattle.fx_shared.specs.Passes.{LogView, HasBase, HasLegal, HasSeenMore, HasSettled, log_over}
 use Rattle.fx_shared.proofs.Truths.{begins_short, true_later}
 use Rattle.fx_diaries.specs.Diaries.{Diary}
-use Rattle.fx_diaries.specs.Positions.{InTurn}
+use Rattle.fx_board.specs.Positions.{InTurn}
 use Rattle.fx_diaries.proofs.Attempting.{own_counts, quiet_between, waits_to, settles, restarts}
 use Rattle.fx_diaries.proofs.Growing.{empty, by_seen}
-use Rattle.fx_diaries.proofs.Positions.{in_turn_longer, in_turn_by}
+use Rattle.fx_board.proofs.Positions.{in_turn_longer, in_turn_by}
 use Rattle.fx_crew.specs.declared.attempting.Outcome.TheVariants.{Settled, Conflict}
 use Rattle.fx_crew.specs.declared.worker.Worker.{Worker}
 use Rattle.fx_crew.specs.Working.{HasTried, ComesTo, IsWorker, HasEntry, HasRetry, HasGone}
 use Rattle.fx_crew.proofs.Orders.{legal_fits}
-use Rattle.fx_crew.proofs.Looks.{see_on}
+use Rattle.fx_shared.proofs.Looks.{see_on}
 
 -- what a step comes to, in views alone: the pass at the start, and in the end
 pub record IsOn (base : BaseTree) (shell next : ℕ) (old new : LogView) (retries : List Retry) : Type 0 where

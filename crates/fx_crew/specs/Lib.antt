@@ -1,5 +1,2 @@
-pub mod Live
-pub mod Desks
 pub mod Working
-pub mod Crews
 pub mod Workers

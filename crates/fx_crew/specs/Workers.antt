@@ -1,5 +1,5 @@
--- Passes of a shared log, whatever keeps it, before and after their shells' work.
-use Rattle.std.specs.Prelude.{◌≡◌, ℕ, zero, suc, ◌<◌, List, [], ◌∷◌, All, length, slice_index_or, Some, None, Result, IfOk}
+-- Passes of a shared log, whatever keeps it, after their shells' work.
+use Rattle.std.specs.Prelude.{◌≡◌, ℕ, zero, suc, ◌<◌, List, [], ◌∷◌, length, slice_index_or, Some, None, Result, IfOk}
 use Rattle.std.specs.List.{flat_map}
 use Rattle.fx_base.specs.declared.NoMemory.{NoMemory}
 use Rattle.fx_spec.specs.CommandTree.{CommandTree}
@@ -13,27 +13,10 @@ use Rattle.fx_turn.specs.Views.{joins}
 use Rattle.fx_turn.specs.Seats.{view}
 use Rattle.fx_shared.specs.declared.shares.Shares.{Shares}
 use Rattle.fx_shared.specs.Passes.{LogView}
-use Rattle.fx_shared.specs.Shared.{IsPassOf, IsReadyPass}
+use Rattle.fx_shared.specs.Shared.{IsReadyPass}
 use Rattle.fx_crew.specs.declared.worker.Worked.{Worked}
 
 module _ {T : Type 0} {g : Ghosts T BaseTree Turn} where
-  -- the pass is the maker's, of a log with this base
-  pub record IsMakerOf (base : BaseTree) (shares : Shares T) (pass : Seat T BaseTree Turn g) : Type 0 where
-    pub pass_of : IsPassOf shares pass
-    pub number : (view pass).number ≡ None
-    pub based : (view pass).base ≡ Some base
-
-  -- a pass with no entries yet
-  pub record IsFresh (base : BaseTree) (shares : Shares T) (pass : Seat T BaseTree Turn g) : Type 0 where
-    pub ready : IsReadyPass shares pass
-    pub based : (view pass).base ≡ Some base
-    pub none : (view pass).mine ≡ 0
-
-  -- one for each shell in turn
-  pub record AreFresh (base : BaseTree) (shares : Shares T) (passes : List (Seat T BaseTree Turn g)) : Type 0 where
-    pub each : All (IsFresh base shares) passes
-    pub numbered : (k : ℕ) (d : Seat T BaseTree Turn g) → k < length passes → (view (slice_index_or passes k d)).number ≡ Some k
-
   -- all transactions of the shell's script are settled, and these are its retries, by its diary
   pub record IsDone (base : BaseTree) (shares : Shares T) (shell : ℕ) (w : Worked T g) : Type 0 where
     pub ready : IsReadyPass shares w.pass

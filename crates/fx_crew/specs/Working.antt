@@ -1,5 +1,5 @@
 -- A shell at work on its script, through a desk of which is known what its pass knows.
-use Rattle.std.specs.Prelude.{◌≡◌, ◌⊎◌, ℕ, ◌+◌, ◌<◌, ◌≤◌, List, [], ◌∷◌, ◌++◌, map, length, Option, Some, None}
+use Rattle.std.specs.Prelude.{◌≡◌, ◌⊎◌, ℕ, ◌+◌, ◌<◌, ◌≤◌, [], ◌∷◌, ◌++◌, length, Option, Some}
 use Rattle.std.specs.List.{sum_by}
 use Rattle.fx_spec.specs.Plans.{count_of}
 use Rattle.fx_spec.specs.Order.{BaseTree}
@@ -10,12 +10,12 @@ use Rattle.fx_machine.specs.Machine.{next_number}
 use Rattle.fx_machine.specs.Needs.{Foretells}
 use Rattle.fx_board.specs.Board.{IsNamed}
 use Rattle.fx_diaries.specs.Diaries.{Diary}
-use Rattle.fx_diaries.specs.Positions.{InTurn}
+use Rattle.fx_board.specs.Positions.{InTurn}
 use Rattle.fx_shared.specs.Passes.{LogView, HasBase, HasSeenMore, HasSettled, log_over}
 use Rattle.fx_crew.specs.declared.attempting.Outcome.{Outcome}
 use Rattle.fx_crew.specs.declared.attempting.Outcome.TheVariants as outcome
 use Rattle.fx_crew.specs.declared.worker.Worker.{Worker}
-use Rattle.fx_crew.specs.Live.{AreTrueOver}
+use Rattle.fx_shared.specs.Live.{AreTrueOver}
 
 -- the attempt is the transaction's, and is explained; each path that it has read came next for the transaction; the reads are
 -- true for the pass, and were looked at one after another, after all that the pass had seen at the start

@@ -6,14 +6,12 @@ ghost use Rattle.fx_machine.specs.Explained.{IsExplained};
 ghost use Rattle.fx_shared.specs.Passes.{HasBase, HasLegal, AreTrueInLog};
 ghost use Rattle.fx_crew.specs.Working.{HasTried, ComesTo, IsWorker, HasGone, HasWorkedOff};
 
-use crate::desk::Desk;
-use crate::live::DeskReader;
 use crate::worker::Worker;
 use fx_base::NoMemory;
 use fx_board::let_go;
 use fx_machine::{Attempt, Retry};
 use fx_run::run;
-use fx_shared::Settle;
+use fx_shared::{Desk, DeskReader, Settle};
 use fx_spec::Base;
 use fx_store::Path;
 use fx_view::Stop;
@@ -121,8 +119,8 @@ fn advance<D: Desk>(
     }
 }
 
-/// Settles the transactions of the pass's script, one after another.
-pub(crate) fn work<D: Desk>(alloc: Global, base: &Arc<Base>, desk: D) -> Result<Worker<D>, NoMemory>
+/// Settles the transactions of the script of the desk's shell, one after another.
+pub fn work<D: Desk>(alloc: Global, base: &Arc<Base>, desk: D) -> Result<Worker<D>, NoMemory>
     requires based { (D.view desk).base ≡ Some (base_tree base.now.value) }
     requires none { (D.view desk).mine ≡ 0 }
     ensures table { IfOk result (λ worker. D.table worker.desk ≡ D.table desk) }

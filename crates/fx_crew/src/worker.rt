@@ -1,5 +1,4 @@
 //! A shell at work on its script.
-use crate::desk::Desk;
 use fx_machine::Retry;
 use fx_shared::Logged;
 use fx_turn::Seat;

@@ -29,9 +29,9 @@ use Rattle.fx_board.specs.Log.{Log}
 use Rattle.fx_diaries.specs.Looks.{looks_in}
 use Rattle.fx_diaries.proofs.Looks.{unlooked, comes_next, has_seen_all, fresh_at, named_at}
 use Rattle.fx_diaries.specs.Diaries.{DoesInShell, Diary}
-use Rattle.fx_diaries.specs.Positions.{InTurn}
+use Rattle.fx_board.specs.Positions.{InTurn}
 use Rattle.fx_diaries.proofs.Growing.{by_event, by_other, by_own}
-use Rattle.fx_diaries.proofs.Positions.{in_turn_ends, in_turn_by}
+use Rattle.fx_board.proofs.Positions.{in_turn_ends, in_turn_by}
 
 abbrev Path : Type 0
 Path = List (List ℕ)

@@ -6,5 +6,4 @@ pub mod Looks
 mod Merging
 pub mod Named
 mod Naming
-pub mod Positions
 pub mod Runs

@@ -2,5 +2,4 @@ pub mod Diaries
 pub mod Laws
 pub mod Looks
 pub mod Named
-pub mod Positions
 pub mod Runs

@@ -1,4 +1,7 @@
 pub mod Crosses
+pub mod Fresh
+pub mod Looks
+pub mod Pasts
 mod Rooms
 mod Searched
 mod Taken

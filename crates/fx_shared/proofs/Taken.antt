@@ -17,7 +17,7 @@ use Rattle.fx_turn.specs.Plays.{Fits}
 use Rattle.fx_turn.specs.Views.{maker_of, taking, giving}
 use Rattle.fx_machine.specs.Machine.{next_number}
 use Rattle.fx_shared.specs.Passes.{LogView}
-use Rattle.fx_shared.proofs.Truths.{count_own}
+use Rattle.fx_board.proofs.Counts.{count_own}
 
 abbrev first : Turn → ℕ
 first turn = turn.0

@@ -1,5 +1,9 @@
+pub mod Crews
+pub mod Desks
 pub mod Kept
+pub mod Live
 pub mod Passes
+pub mod Past
 pub mod Shared
 pub mod Tables
 pub mod Versions

@@ -15,7 +15,7 @@ use Rattle.fx_shared.specs.contracts.versioned.Versioned as versioned
 use Rattle.fx_shared.specs.contracts.versioned.VersionedKept.TheImpl as kept
 use Rattle.fx_shared.specs.contracts.shares.Shares as shares
 use Rattle.fx_report.specs.contracts.printed.View as view
-use Rattle.fx_crew.specs.contracts.crew.Crew as crew
+use Rattle.fx_shared.specs.contracts.crew.Crew as crew
 use Rattle.fx_crew.specs.contracts.worker.Worked as worked
 use Rattle.fx_views.specs.contracts.viewing.Onlooker as onlooker
 

@@ -1,4 +1,3 @@
 mod Closings
 mod Crosses
-pub mod Pasts
 pub mod Viewings

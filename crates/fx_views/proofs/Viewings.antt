@@ -16,7 +16,7 @@ use Rattle.fx_turn.specs.Histories.{Begins}
 use Rattle.fx_shared.specs.Passes.{LogView}
 use Rattle.fx_shared.proofs.Truths.{begins_short, state_later}
 use Rattle.fx_report.specs.declared.printed.View.{View}
-use Rattle.fx_views.specs.Past.{AreAt}
+use Rattle.fx_shared.specs.Past.{AreAt}
 use Rattle.fx_views.specs.Viewing.{AreAlike, IsViewSeen}
 use Rattle.fx_views.specs.Views.{IsView, AreViewsFrom, AreViews}
 

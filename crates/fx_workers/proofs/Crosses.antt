@@ -11,7 +11,7 @@ use Rattle.fx_board.specs.contracts.board.Board as board
 use Rattle.fx_board.specs.contracts.kept.BoardKept.TheImpl as kept
 use Rattle.fx_board.proofs.Crosses.{Board-send}
 use Rattle.fx_shared.specs.contracts.shares.Shares as shares
-use Rattle.fx_crew.specs.contracts.crew.Crew as crew
+use Rattle.fx_shared.specs.contracts.crew.Crew as crew
 
 pub Shared-sync : IsSync (shares.the_field (board.the_row) (kept.ghosts)).row
 Shared-sync = search (sendable, crosses, Board-send, table_shared, table_lease) depth 40

@@ -2,5 +2,6 @@
 #![tactic(auto)]
 
 mod running;
+mod working;
 
 pub use running::run_all;

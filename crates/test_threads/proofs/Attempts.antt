@@ -9,8 +9,8 @@ use Rattle.fx_machine.specs.Explained.{IsExplained}
 use Rattle.fx_machine.specs.Needs.{ReadsFit}
 use Rattle.fx_turn.proofs.Growth.{begins_same}
 use Rattle.fx_shared.specs.Passes.{LogView, HasSeenMore, IsLook}
-use Rattle.fx_crew.specs.Live.{AreTrueOver}
-use Rattle.fx_crew.proofs.Looks.{see_on, stand_more}
+use Rattle.fx_shared.specs.Live.{AreTrueOver}
+use Rattle.fx_shared.proofs.Looks.{see_on, stand_more}
 use Rattle.test_threads.specs.Workings.{AddsLook, HasRun, HasRunOrSeen}
 
 pub seen_same : (v : LogView) → HasSeenMore v v

@@ -15,7 +15,7 @@ use Rattle.fx_machine.specs.Needs.{ReadsFit}
 use Rattle.fx_shared.specs.declared.shares.Shares.{Shares}
 use Rattle.fx_shared.specs.Passes.{LogView, HasSeenMore}
 use Rattle.fx_shared.specs.Shared.{IsPassOf, IsReadyPass}
-use Rattle.fx_crew.specs.Live.{AreTrueOver}
+use Rattle.fx_shared.specs.Live.{AreTrueOver}
 
 -- a look at the path is added to the reads
 abbrev pub AddsLook : ReadList → List (List ℕ) → ReadList → Type 0

@@ -9,7 +9,7 @@ ghost use Rattle.fx_turn.specs.Seats.{view};
 ghost use Rattle.fx_turn.specs.Views.{maker_of};
 ghost use Rattle.fx_shared.specs.Passes.{HasBase, HasSeenMore, AreTrueInLog};
 ghost use Rattle.fx_shared.specs.Shared.{IsPassOf, IsReadyPass};
-ghost use Rattle.fx_crew.specs.Live.{AreTrueOver};
+ghost use Rattle.fx_shared.specs.Live.{AreTrueOver};
 ghost use Rattle.test_threads.specs.Workings.{AddsLook, IsKnown, HasRun, HasRunOrSeen, IsAt, IsFresh, HasJoined};
 
 use crate::meeting::Meeting;

@@ -1,6 +1,6 @@
 use Rattle.std.proofs.Common.{refl, sym, ap, ◌∙◌}
 use Rattle.fx_spec.specs.Bases.{base_tree}
-use Rattle.fx_crew.specs.Live.{begins_to_vouch}
+use Rattle.fx_shared.specs.Live.{begins_to_vouch}
 use Rattle.fx_crew.proofs.Attempts.{tried_by}
 use Rattle.fx_crew.proofs.attempting.attempt.Goals as goal
 

@@ -1,5 +1,5 @@
 use Rattle.fx_turn.specs.Seats.{view}
-use Rattle.fx_crew.specs.Crews.{base_of}
+use Rattle.fx_shared.specs.Crews.{base_of}
 use Rattle.fx_crew.proofs.Gathers.{gathered_noted}
 use Rattle.fx_crew.proofs.passes.take_in.Goals as goal
 

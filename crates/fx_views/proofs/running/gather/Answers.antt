@@ -3,7 +3,7 @@ use Rattle.std.proofs.Common.{rules, [], ◌∷◌, length, subst, sym, ◌∙�
 use Rattle.std.proofs.lemmas.Iterator.Consumers.{YieldsList-turn, YieldsList-end}
 use Rattle.std.proofs.lemmas.Iterator.Adapters.{YieldsList-from_vec}
 use Rattle.fx_shared.proofs.Crosses.{Versioned-send}
-use Rattle.fx_crew.specs.Crews.{base_of}
+use Rattle.fx_shared.specs.Crews.{base_of}
 use Rattle.fx_crew.specs.Workers.{IsDone}
 use Rattle.fx_crew.proofs.Works.{done_at}
 use Rattle.fx_views.proofs.running.gather.Goals as goal

@@ -2,7 +2,7 @@ use Rattle.std.proofs.Common.{◌≡◌, length}
 use Rattle.fx_turn.specs.Seats.{view}
 use Rattle.fx_turn.specs.Views.{joins}
 use Rattle.fx_shared.specs.Shared.{IsPassOf}
-use Rattle.fx_crew.specs.Crews.{base_of}
+use Rattle.fx_shared.specs.Crews.{base_of}
 use Rattle.fx_crew.specs.Workers.{HasGathered}
 use Rattle.fx_views.proofs.running.gather.Given as goal
 

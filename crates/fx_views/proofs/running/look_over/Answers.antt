@@ -4,9 +4,9 @@ use Rattle.fx_spec.specs.Bases.{base_tree}
 use Rattle.fx_shared.proofs.Crosses.{Versioned-send}
 use Rattle.fx_turn.specs.Seats.{view}
 use Rattle.fx_shared.specs.Passes.{LogView}
-use Rattle.fx_crew.specs.Crews.{base_of}
+use Rattle.fx_shared.specs.Crews.{base_of}
 use Rattle.fx_crew.proofs.Gathers.{none_gathered}
-use Rattle.fx_crew.proofs.Works.{fresh_pass}
+use Rattle.fx_shared.proofs.Fresh.{fresh_pass}
 use Rattle.fx_views.proofs.Closings.{looked_over}
 use Rattle.fx_views.proofs.running.look_over.Goals as goal
 

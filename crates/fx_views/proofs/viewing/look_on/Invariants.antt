@@ -1,5 +1,5 @@
 use Rattle.fx_spec.specs.Bases.{base_tree}
-use Rattle.fx_crew.specs.Crews.{base_of}
+use Rattle.fx_shared.specs.Crews.{base_of}
 use Rattle.fx_views.specs.Viewing.{IsOnlooker}
 use Rattle.fx_views.proofs.viewing.look_on.Given as goal
 

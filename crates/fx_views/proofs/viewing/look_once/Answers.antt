@@ -4,8 +4,8 @@ use Rattle.fx_shared.proofs.Crosses.{Versioned-send}
 use Rattle.fx_spec.specs.Bases.{base_tree}
 use Rattle.fx_turn.specs.Seats.{view}
 use Rattle.fx_shared.proofs.Truths.{begins_short}
-use Rattle.fx_crew.specs.Crews.{base_of}
-use Rattle.fx_crew.proofs.Looks.{see_on}
+use Rattle.fx_shared.specs.Crews.{base_of}
+use Rattle.fx_shared.proofs.Looks.{see_on}
 use Rattle.fx_report.specs.declared.printed.View.{View}
 use Rattle.fx_views.proofs.Viewings.{views_next, last_same}
 use Rattle.fx_views.proofs.viewing.look_once.Goals as goal

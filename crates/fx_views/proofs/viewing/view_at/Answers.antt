@@ -5,9 +5,9 @@ use Rattle.fx_spec.specs.declared.base.Base.{Base}
 use Rattle.fx_spec.specs.Bases.{base_tree}
 use Rattle.fx_turn.specs.Seats.{view}
 use Rattle.fx_shared.specs.Shared.{IsReadyPass}
-use Rattle.fx_crew.specs.Crews.{base_of}
-use Rattle.fx_views.specs.Past.{AreAt, begins_to_vouch_at}
-use Rattle.fx_views.proofs.Pasts.{more_by, within_on}
+use Rattle.fx_shared.specs.Crews.{base_of}
+use Rattle.fx_shared.specs.Past.{AreAt, begins_to_vouch_at}
+use Rattle.fx_shared.proofs.Pasts.{more_by, within_on}
 use Rattle.fx_views.proofs.Viewings.{view_there}
 use Rattle.fx_views.proofs.viewing.view_at.Goals as goal
 

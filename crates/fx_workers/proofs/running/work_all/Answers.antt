@@ -6,8 +6,9 @@ use Rattle.std.proofs.Crossing.{crosses}
 use Rattle.atomic_table.proofs.shared.Seat.TheSendSync.{the_send as table_seat}
 use Rattle.fx_board.proofs.Crosses.{Board-send}
 use Rattle.fx_turn.specs.Seats.{view}
-use Rattle.fx_crew.specs.Crews.{base_of}
-use Rattle.fx_crew.specs.Workers.{IsFresh, AreDone}
+use Rattle.fx_shared.specs.Crews.{base_of}
+use Rattle.fx_shared.specs.Shared.{IsFresh}
+use Rattle.fx_crew.specs.Workers.{AreDone}
 use Rattle.fx_machine.proofs.Crosses.{Retry-send}
 use Rattle.fx_workers.proofs.Crosses.{Crew-sync}
 use Rattle.fx_crew.proofs.Works.{mapped, done_by}

@@ -2,7 +2,7 @@ use denote.Param.Send.{sendable}
 use Rattle.std.proofs.Common.{◌∙◌}
 use Rattle.fx_board.proofs.Crosses.{Board-send}
 use Rattle.fx_turn.specs.Seats.{view}
-use Rattle.fx_crew.specs.Crews.{base_of}
+use Rattle.fx_shared.specs.Crews.{base_of}
 use Rattle.fx_crew.proofs.Gathers.{none_gathered}
 use Rattle.fx_workers.proofs.running.work_over.Goals as goal
 

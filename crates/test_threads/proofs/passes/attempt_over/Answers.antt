@@ -1,7 +1,7 @@
 use Rattle.std.proofs.Common.{◌≡◌, refl, sym, subst}
 use Rattle.fx_spec.specs.Bases.{base_tree}
 use Rattle.fx_turn.specs.Seats.{view}
-use Rattle.fx_crew.specs.Live.{AreTrueOver}
+use Rattle.fx_shared.specs.Live.{AreTrueOver}
 use Rattle.test_threads.proofs.Attempts.{run_over, learned}
 use Rattle.test_threads.proofs.passes.attempt_over.Goals as goal
 

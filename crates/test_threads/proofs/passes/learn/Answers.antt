@@ -1,7 +1,7 @@
 use denote.Param.Send.{sendable}
 use Rattle.fx_board.proofs.Crosses.{Board-send}
 use Rattle.fx_turn.specs.Seats.{view}
-use Rattle.fx_crew.proofs.Looks.{stand_on}
+use Rattle.fx_shared.proofs.Looks.{stand_on}
 use Rattle.test_threads.proofs.Attempts.{stand_added}
 use Rattle.test_threads.proofs.passes.learn.Goals as goal
 

@@ -1,6 +1,0 @@
-use Rattle.fx_crew.proofs.Looks.{ready_by}
-use Rattle.fx_crew.proofs.desk.LogDesk.into_pass.Goals as goal
-
-pub returns-clause-ready : goal.returns-clause-ready
-returns-clause-ready g c =
-    let s = c.args.self in ready_by s.shares.now s.pass s.shell s.turn s.number s.idle s.based
