@@ -8,12 +8,7 @@ use fx_expr::{Env, Value, Word};
 use std::alloc::Global;
 
 /// Binds a name to a value. A refusal changes nothing.
-pub fn bind_value(
-    alloc: Global,
-    env: &mut Env,
-    name: &Word,
-    value: Value,
-) -> Result<(), NoMemory>
+pub fn bind_value(alloc: Global, env: &mut Env, name: &Word, value: Value) -> Result<(), NoMemory>
     ensures bound { OnOk result (env.new ≡ bind env.old name.now (tree_of value)) }
     ensures refused { OnErr result (env.new ≡ env.old) }
 {

@@ -16,7 +16,10 @@ ghost use Rattle.fx_zip.specs.Trees.{here, is_settled, IsSettled};
 use fx_base::NoMemory;
 use fx_expr::{Env, TextSet};
 use fx_spec::{Base, Part, Place, Refusal};
-use fx_steps::frames::{are_told, as_many, bind, held_set, is_element, last_path, last_step_of, pop_frame, pop_step, push_frame, push_step, unbind_at, unbind_last};
+use fx_steps::frames::{
+    are_told, as_many, bind, held_set, is_element, last_path, last_step_of, pop_frame, pop_step,
+    push_frame, push_step, unbind_at, unbind_last,
+};
 use fx_steps::part::{part, part_around};
 use fx_steps::{Entry, Frame, Spot, Step};
 use fx_store::Path;
