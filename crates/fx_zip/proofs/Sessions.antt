@@ -1,5 +1,5 @@
 -- What follows from a rule that was followed through a session, and calls that answer what is found over what is known.
-use Rattle.fx_zip.proofs.Prelude.{◌≡◌, List, ◌++◌, Result, Ok, Err, refl, sym, ap, ◌∙◌, subst, arith, Known, Ask, Found, Store, Bindings, Address, SpecTree}
+use Rattle.fx_zip.proofs.Prelude.{◌≡◌, List, ◌++◌, Result, Ok, Err, refl, sym, ap, ◌∙◌, subst, arith, Ask, Found, Store, Bindings, Address, SpecTree}
 use Rattle.fx_zip.proofs.Prelude.{Stop, Meaning, own_at, OwnList, ReadList, known_of, Agrees, Session, Implements, Frame, SaysFound, AreFound, IsFresh, Stands, IsFreshIn, StandsIn}
 use Rattle.fx_zip.proofs.Prelude.{ZipTree}
 use Rattle.fx_view.specs.declared.reader.Stop.TheVariants as stop
@@ -55,12 +55,9 @@ module _ {R L : Type 0} {m : Meaning R} where
 -- ---- calls that consult nothing
 
 module _ {R L A X : Type 0} (m : Meaning R) (view : X → A) (s : Session R L) (rule : Ask A) where
-  abbrev known : Known
-  known = known_of (m.reads s.reader.now)
-
-  goes_found : (r : Result X Stop) → SaysFound known (own_at s.own) view rule r → GoesBy m view (own_at s.own) s.reader.now s.reader.now rule r
-  goes_found (Ok x) h = (h, Went-none m s.reader.now (walked known (own_at s.own) rule))
-  goes_found (Err stop.NoMemory) h = Went-none m s.reader.now (walked known (own_at s.own) rule)
+  goes_found : (r : Result X Stop) → SaysFound (known_of (m.reads s.reader.now)) (own_at s.own) view rule r → GoesBy m view (own_at s.own) s.reader.now s.reader.now rule r
+  goes_found (Ok x) h = (h, Went-none m s.reader.now (walked (known_of (m.reads s.reader.now)) (own_at s.own) rule))
+  goes_found (Err stop.NoMemory) h = Went-none m s.reader.now (walked (known_of (m.reads s.reader.now)) (own_at s.own) rule)
   goes_found (Err (stop.Needs p)) h = absurd h
 
 module _ {R L A X : Type 0} {m : Meaning R} {view : X → A} {old : Session R L} {rule : Ask A} (r : Result X Stop) where
