@@ -3,7 +3,7 @@ ghost use Rattle.std.specs.Prelude.{false, take, IfOk};
 ghost use Rattle.fx_spec.specs.Edit as edit;
 ghost use Rattle.fx_session.specs.Implements.{Answers, Implements};
 ghost use Rattle.fx_view.specs.Own.{own_at, SameOver};
-ghost use Rattle.fx_walk.specs.Places.{place_tree};
+ghost use Rattle.fx_session.specs.Places.{place_tree};
 ghost use Rattle.fx_edit.specs.Edits as says;
 ghost use Rattle.fx_edit.specs.Edits.{done, IsNextSet};
 ghost use Rattle.fx_edit.specs.Rules.{HasLast, removing, remove_there};

@@ -1,3 +1,5 @@
 pub mod Calls
 pub mod Courses
 pub mod Halting
+pub mod ArgumentsLemmas
+pub mod Sizes

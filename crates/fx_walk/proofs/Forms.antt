@@ -20,7 +20,7 @@ use Rattle.fx_view.specs.Meaning.{Meaning}
 use Rattle.fx_session.specs.declared.session.Session.{Session}
 use Rattle.fx_session.specs.Implements.{Implements, ticked, ticked_by}
 use Rattle.fx_session.proofs.Calls.{answers, refused, same_rule, ticks_on, ticks_behind, then_on, then_answers, stops, then_refused}
-use Rattle.fx_walk.specs.Arguments.{with_each, inner_names}
+use Rattle.fx_session.specs.Arguments.{with_each, inner_names}
 use Rattle.fx_walk.specs.Given.{path_given, set_given, mapped, Pairs}
 use Rattle.fx_walk.proofs.Rows.{Values, part_at, table_rule}
 

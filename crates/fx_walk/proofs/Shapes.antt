@@ -24,9 +24,9 @@ use Rattle.fx_view.specs.Own.{own_at}
 use Rattle.fx_view.proofs.Rules.{found_answer}
 use Rattle.fx_session.specs.declared.session.Session.{Session}
 use Rattle.fx_session.specs.Implements.{Implements}
-use Rattle.fx_walk.specs.Arguments.{HaveShapes, inner_names}
-use Rattle.fx_walk.specs.Scopes.{HasScope, HasTextScope}
-use Rattle.fx_walk.proofs.ArgumentsLemmas.{names_have}
+use Rattle.fx_session.specs.Arguments.{HaveShapes, inner_names}
+use Rattle.fx_session.specs.Scopes.{HasScope, HasTextScope}
+use Rattle.fx_session.proofs.ArgumentsLemmas.{names_have}
 
 of_scope : (scope : Scope) (env : Bindings) (spec : SpecTree) → IsDescription scope spec → BindingsHave env scope → HasScope env spec
 of_scope scope env spec d b = record { scope = scope; described = record { shapes = d; bindings = b } }

@@ -4,7 +4,8 @@ ghost use Rattle.std.specs.List.{list_all};
 ghost use Rattle.std.specs.FinMap.{get};
 ghost use Rattle.fx_spec.specs.Shaped.{IsDescribedPlace};
 ghost use Rattle.fx_view.specs.Reads.{read_at};
-ghost use Rattle.fx_walk.specs.Places.{place_tree, value_at};
+ghost use Rattle.fx_session.specs.Places.{place_tree};
+ghost use Rattle.fx_walk.specs.Places.{value_at};
 ghost use Rattle.fx_watch.specs.Validity.{IsFound, IsWalked, evaluations};
 ghost use Rattle.fx_store.specs.Rule.{ticks};
 

@@ -7,15 +7,12 @@ use Rattle.fx_zip.proofs.Prelude.{comp_name, bound_value, LeadsToSpot, LeadsFrom
 use Rattle.fx_zip.proofs.Prelude.{Session, own_at}
 use Rattle.fx_view.specs.declared.reader.Stop.TheVariants as stop
 use Rattle.fx_session.specs.declared.halt.Halt.TheVariants as halt
-use Rattle.fx_zip.specs.declared.frame.Bound.TheVariants as bounds
-use Rattle.fx_zip.proofs.Entering.{leads_at, leads_step}
-use Rattle.fx_zip.proofs.Leads.{first_leads, element_leads, grown_is, front_last}
+use Rattle.fx_steps.specs.declared.frame.Bound.TheVariants as bounds
+use Rattle.fx_steps.proofs.Entering.{leads_at, leads_step}
+use Rattle.fx_steps.proofs.Leads.{first_leads, element_leads, grown_is, front_last}
 use Rattle.fx_zip.proofs.Standing.{found_place, stands_settled, stands_left, stands_entered, left_settled}
-use Rattle.fx_zip.proofs.Sessions.{stands_on, found_by, found_on}
-
-all_taken : {A : Type 0} (xs : List A) → take (length xs) xs ≡ xs
-all_taken [] = refl
-all_taken (x ∷ xs) = ap (λ xs. x ∷ xs) (all_taken xs)
+use Rattle.fx_zip.proofs.Sessions.{stands_on, found_on}
+use Rattle.fx_steps.proofs.Sessions.{found_by}
 
 says_found : {A X : Type 0} (known own : Known) (view : X → A) (rule : Ask A) (o : A) (r : Result X Stop) → follow known own rule ≡ Found o → Says view (Some o) r → SaysFound known own view rule r
 says_found known own view rule o (Ok x) e h = let same : o ≡ view x = cc in e ∙ ap (λ a. Found a) same
@@ -220,10 +217,6 @@ first_besides known own z stands entry step bound second path =
     record { says = b.0; leads = leads_left known own z stands (Ok entry) b.1 }
 
 -- ---- from a first part to the second
-
--- what is found by all reads, as many as the frame tells
-pub by_all : {A : Type 0} (reads : ReadList) (spot : Spot) (own : Known) (rule : Ask A) (a : A) → spot.reads ≡ length reads → follow (known_of reads) own rule ≡ Found a → follow (known_of (take spot.reads reads)) own rule ≡ Found a
-by_all reads spot own rule a all h = ap (λ rs. follow (known_of rs) own rule) (ap (λ k. take k reads) all ∙ all_taken reads) ∙ h
 
 pub leads_second : (known : ReadList) (own : Known) (p : List (List ℕ)) (env : Bindings) (s : SpecTree) (x : List ℕ) (a b : SpecTree) (spot : Spot) → s ≡ SpecTree.pair x a b → follow (known_of (take spot.reads known)) own (value p env a) ≡ Found (Some (bound_value spot)) → BindsValue p x (bound_value spot) spot → LeadsToSpot known own Second p env s spot
 leads_second known own p env s x a b spot form found binds =

@@ -1,13 +1,12 @@
 -- Frames that last over own changes: a rule is followed as before where the own changes are as before at all that was read.
-use Rattle.fx_zip.proofs.Prelude.{◌≡◌, ℕ, zero, suc, ◌+◌, ◌-◌, ◌≤◌, ◌<◌, Bool, true, false, ◌&&◌, List, [], ◌∷◌, ◌++◌, length, take, drop, Option, Some, None, IsSome, is_some, refl, sym, ap, ◌∙◌, subst, arith, append_assoc, length-append}
-use Rattle.fx_zip.proofs.Prelude.{nat_le, slice_get, and_from, Node, Known, Ask, Answer, Look, Tick, follow, if_known, seen, Bindings, Address, lead, SpecTree, ReadList, SameOver, known_of, Frame, around, around_last, around_frame, shorter}
-use Rattle.fx_zip.proofs.Prelude.{AreFound, IsFresh, are_told, part, ZipTree, path_of, turned}
+use Rattle.fx_zip.proofs.Prelude.{◌≡◌, ℕ, zero, suc, ◌+◌, ◌-◌, ◌≤◌, ◌<◌, true, false, List, [], ◌∷◌, ◌++◌, length, take, drop, Option, Some, None, IsSome, is_some, refl, sym, ap, ◌∙◌, subst, arith, append_assoc, length-append}
+use Rattle.fx_zip.proofs.Prelude.{nat_le, Node, Known, Ask, Answer, Look, Tick, follow, if_known, seen, Bindings, Address, lead, SpecTree, ReadList, SameOver, known_of, Frame, around, around_last, around_frame, shorter}
+use Rattle.fx_zip.proofs.Prelude.{AreFound, IsFresh, are_told, part, ZipTree, path_of}
 use Rattle.std.proofs.lemmas.Bool.Decides.{nat_tests}
 use Rattle.fx_base.proofs.Booleans.{first_true, second_true}
 use Rattle.fx_base.proofs.Results.{still_some}
 use Rattle.fx_view.proofs.Growing.{Grows, Grows-reads}
 use Rattle.fx_zip.proofs.Standing.{IsMore, found_length}
-use Rattle.fx_zip.proofs.Turning.{turned_at, turned-last}
 
 abbrev Path : Type 0
 Path = List (List ℕ)
@@ -112,39 +111,3 @@ module _ (reads : ReadList) (own : Known) (z : ZipTree) where
 pub some_frame : (n : ℕ) (fs : List Frame) → are_told n fs ≡ false → length (drop 1 fs) < length fs
 some_frame n [] e = absurd (cc)
 some_frame n (f ∷ fs) e = omega arith
-
--- ---- the loops
-
-told_append : (n : ℕ) (fs gs : List Frame) → are_told n (fs ++ gs) ≡ are_told n fs && are_told n gs
-told_append n [] gs = refl
-told_append n (f ∷ fs) gs = at (nat_le f.reads n) (told_append n fs gs)
-  where
-    at : (b : Bool) → are_told n (fs ++ gs) ≡ are_told n fs && are_told n gs → b && are_told n (fs ++ gs) ≡ (b && are_told n fs) && are_told n gs
-    at true rest = rest
-    at false rest = refl
-
-within_is : (k n : ℕ) → k ≤ n → nat_le k n ≡ true
-within_is k n e = grind (arith, nat_tests)
-
-beyond_is : (k n : ℕ) → n < k → nat_le k n ≡ false
-beyond_is k n e = grind (arith, nat_tests)
-
-none_told : (a b c : Bool) → b ≡ false → (a && (b && true)) && c ≡ false
-none_told true true c e = absurd (cc)
-none_told true false c e = refl
-none_told false b c e = refl
-
--- one frame that more reads tell
-pub not_told : (n : ℕ) (frames : List Frame) (i : ℕ) (f : Frame) → slice_get frames i ≡ Some f → n < f.reads → are_told n (turned (λ f. f) frames) ≡ false
-not_told n frames i f at more =
-    let after = turned (λ f. f) (drop (i + 1) frames) in
-    let before = turned (λ f. f) (take i frames) in
-    ap (are_told n) (turned_at (λ f. f) frames i f at)
-    ∙ told_append n (after ++ f ∷ []) before
-    ∙ ap (λ b. b && are_told n before) (told_append n after (f ∷ []))
-    ∙ none_told (are_told n after) (nat_le f.reads n) (are_told n before) (beyond_is f.reads n more)
-
--- one more that these tell
-pub told_more : (n : ℕ) (frames next : List Frame) (f : Frame) → next ≡ frames ++ f ∷ [] → f.reads ≤ n → are_told n (turned (λ f. f) frames) ≡ true → are_told n (turned (λ f. f) next) ≡ true
-told_more n frames next f is few told =
-    ap (are_told n) (ap (turned (λ f. f)) is ∙ turned-last (λ f. f) frames f) ∙ and_from (nat_le f.reads n) (are_told n (turned (λ f. f) frames)) (within_is f.reads n few) told

@@ -1,16 +1,11 @@
 pub mod Prelude
-pub mod Arguments
-pub mod Turning
 pub mod Standing
 pub mod Settled
-pub mod Telling
 pub mod Sessions
-pub mod Leads
-pub mod Entering
 pub mod Nexting
 pub mod Places
 pub mod Beside
-pub mod Consulting
+pub mod Seconds
 pub mod Finding
 pub mod Around
 pub mod Questions

@@ -3,10 +3,10 @@ use Rattle.fx_zip.proofs.Prelude.{ReadList, ◌≡◌, ℕ, ◌<◌, Bool, true,
 use Rattle.fx_zip.proofs.Prelude.{slice_get_read, Frame, eqb-false, Known, Bindings, SpecTree, IsDescription, Stop, Meaning, err_of, HasScope, Spot, IsSettling, SettlesFrames, IsFresh, part, LeadsTo, LeadsNext, kept_too, step_tree, turned}
 use Rattle.fx_zip.proofs.Prelude.{ZipTree, path_of, is_settled, Session, own_at}
 use Rattle.fx_view.specs.declared.reader.Stop.TheVariants as stop
-use Rattle.fx_zip.specs.declared.step.Step.{Step}
+use Rattle.fx_steps.specs.declared.step.Step.{Step}
 use Rattle.fx_zip.proofs.Settled.{IsNext, next_step, settles_on, settles_none, settles_stop, settles_memory}
 use Rattle.fx_zip.proofs.Standing.{found_length, found_scope}
-use Rattle.fx_zip.proofs.Turning.{length-turned, same_ends}
+use Rattle.fx_steps.proofs.Turning.{length-turned, same_ends}
 
 module _ (known : ReadList) (own : Known) (z : ZipTree) (fresh : IsFresh known own z) where
   frames_kept : length z.frames ≡ length fresh.kept

@@ -5,7 +5,7 @@ use Rattle.fx_zip.proofs.Prelude.{found_answer, Halt, answered, split, IsDescrip
 use Rattle.fx_spec.proofs.Shaped.{fetches_have_shapes, wholes_have_shapes}
 use Rattle.fx_zip.specs.declared.question.Question.{Question}
 use Rattle.fx_zip.specs.declared.question.Question.TheVariants as question
-use Rattle.fx_zip.proofs.Sessions.{tells_on, only_counts}
+use Rattle.fx_steps.proofs.Sessions.{tells_on, only_counts}
 
 -- an answer has the shape that the rule's answers have at each filestore
 asked_has : {R L : Type 0} (m : Meaning R) (was now : Session R L) (rule : Ask (Answered Tree)) (shape : ShapeTree) → ((S : Store) → IfOk (answer S rule) (λ v. ValueHas v shape)) → (r : Result Value Halt) → Answers m tree_of was now rule r → IfOk r (λ v. ValueHas (tree_of v) shape)

@@ -1,13 +1,12 @@
--- What follows from a rule that was followed through a session, and calls that only count, or that consult nothing.
-use Rattle.fx_zip.proofs.Prelude.{◌≡◌, ℕ, List, ◌++◌, take, Option, Some, None, Result, Ok, Err, refl, sym, ap, ◌∙◌, subst, arith, IfOk, IfSome, Known, Ask, Found, follow, changed, Store, Bindings, Answered, Step, Address, lead, SpecTree}
-use Rattle.fx_zip.proofs.Prelude.{Stop, Meaning, own_at, OwnList, ReadList, known_of, Agrees, Halt, Session, split, Implements, ticked_by, Entry, Frame, Spot, SaysFound, AreFound, IsFresh, Stands, IsFreshIn, StandsIn, LeadsToSpot, LeadsTo}
-use Rattle.fx_zip.proofs.Prelude.{LeadsAt, Enters, EntersAt, OnlyCounts, told, Says, TellsWithin, ZipTree}
+-- What follows from a rule that was followed through a session, and calls that answer what is found over what is known.
+use Rattle.fx_zip.proofs.Prelude.{◌≡◌, List, ◌++◌, Result, Ok, Err, refl, sym, ap, ◌∙◌, subst, arith, Ask, Found, Store, Bindings, Address, SpecTree}
+use Rattle.fx_zip.proofs.Prelude.{Stop, Meaning, own_at, OwnList, ReadList, known_of, Agrees, Session, Implements, Frame, SaysFound, AreFound, IsFresh, Stands, IsFreshIn, StandsIn}
+use Rattle.fx_zip.proofs.Prelude.{ZipTree}
 use Rattle.fx_view.specs.declared.reader.Stop.TheVariants as stop
 use Rattle.fx_view.specs.Follows.{GoesBy, walked}
 use Rattle.fx_view.proofs.Calls.{agrees_by, went_by}
 use Rattle.fx_view.proofs.Going.{Went-none}
 use Rattle.fx_zip.proofs.Standing.{found_grows, stands_grows, fresh_grows}
-use Rattle.fx_zip.proofs.Telling.{told_found, costs_ticks}
 
 module _ {R L : Type 0} {m : Meaning R} where
   module _ {A X : Type 0} {view : X → A} {old new : Session R L} {rule : Ask A} where
@@ -35,9 +34,6 @@ module _ {R L : Type 0} {m : Meaning R} where
           subst (λ (own : OwnList). IsFresh (m.reads new.reader.now) (own_at own) z) (sym h.own)
           (fresh_grows (m.reads old.reader.now) (own_at old.own) z (m.reads new.reader.now) grows fresh)
 
-    pub found_by : {x : X} → Implements m view old new rule (Ok x) → follow (known_of (m.reads new.reader.now)) (own_at new.own) rule ≡ Found (view x)
-    found_by {x = x} h = subst (λ (own : OwnList). follow (known_of (m.reads new.reader.now)) (own_at own) rule ≡ Found (view x)) (sym h.own) h.follows.goes.0
-
     -- ---- the answer, seen in another way
 
     module _ {Y : Type 0} {then_view : Y → A} where
@@ -56,56 +52,14 @@ module _ {R L : Type 0} {m : Meaning R} where
         lent = h.lent;
       }
 
--- ---- calls that only count, or that consult nothing
-
-abbrev counted : {R L : Type 0} → ℕ → Session R L → Session R L
-counted n s = record { alloc = s.alloc; reader = s.reader; own = s.own; steps = n }
-
-pub only_counts : {R L : Type 0} (n : ℕ) (old : Session R L) {new : Session R L} → new ≡ ticked_by n old → OnlyCounts old new
-only_counts {R} {L} n old is = subst (λ (s : Session R L). OnlyCounts old s) (sym is) refl
-
-pub counts_on : {R L : Type 0} (a b : Session R L) (n : ℕ) {c : Session R L} → OnlyCounts a b → c ≡ ticked_by n b → OnlyCounts a c
-counts_on {R} {L} a b n still is = subst (λ (s : Session R L). OnlyCounts a s) (sym is) (ap (λ (s : Session R L). ticked_by n s) still)
+-- ---- calls that consult nothing
 
 module _ {R L A X : Type 0} (m : Meaning R) (view : X → A) (s : Session R L) (rule : Ask A) where
-  abbrev known : Known
-  known = known_of (m.reads s.reader.now)
-
-  goes_told : (r : Result X Stop) → Says view (told rule) r → GoesBy m view (own_at s.own) s.reader.now s.reader.now rule r
-  goes_told (Ok x) h = (told_found known (own_at s.own) rule (view x) h, Went-none m s.reader.now (walked known (own_at s.own) rule))
-  goes_told (Err stop.NoMemory) h = Went-none m s.reader.now (walked known (own_at s.own) rule)
-  goes_told (Err (stop.Needs p)) h = absurd h
-
-  tells_at : (n : ℕ) (r : Result X Stop) → TellsWithin view s.steps n rule r → Implements m view s (counted n s) rule r
-  tells_at n r h = record {
-    own = refl;
-    follows = record { goes = goes_told r h.says; most = λ S agrees. let cost = costs_ticks (changed (own_at s.own) S) rule in omega (arith, cost, h.most) };
-    lent = refl;
-  }
-
-  goes_found : (r : Result X Stop) → SaysFound known (own_at s.own) view rule r → GoesBy m view (own_at s.own) s.reader.now s.reader.now rule r
-  goes_found (Ok x) h = (h, Went-none m s.reader.now (walked known (own_at s.own) rule))
-  goes_found (Err stop.NoMemory) h = Went-none m s.reader.now (walked known (own_at s.own) rule)
+  goes_found : (r : Result X Stop) → SaysFound (known_of (m.reads s.reader.now)) (own_at s.own) view rule r → GoesBy m view (own_at s.own) s.reader.now s.reader.now rule r
+  goes_found (Ok x) h = (h, Went-none m s.reader.now (walked (known_of (m.reads s.reader.now)) (own_at s.own) rule))
+  goes_found (Err stop.NoMemory) h = Went-none m s.reader.now (walked (known_of (m.reads s.reader.now)) (own_at s.own) rule)
   goes_found (Err (stop.Needs p)) h = absurd h
 
 module _ {R L A X : Type 0} {m : Meaning R} {view : X → A} {old : Session R L} {rule : Ask A} (r : Result X Stop) where
-  pub tells_on : {new : Session R L} → OnlyCounts old new → TellsWithin view old.steps new.steps rule r → Implements m view old new rule r
-  tells_on {new = new} still h = subst (λ (s : Session R L). Implements m view old s rule r) (sym still) (tells_at m view old rule new.steps r h)
-
   pub found_on : SaysFound (known_of (m.reads old.reader.now)) (own_at old.own) view rule r → Implements m view old old rule r
   found_on h = record { own = refl; follows = record { goes = goes_found m view old rule r h; most = λ S agrees. omega arith }; lent = refl }
-
-spots_of : (reads : ReadList) (own : Known) (step : Step) (p : List (List ℕ)) (env : Bindings) (spec : SpecTree) (was now : ℕ) (r : Result (Option Spot) Stop) → LeadsAt step p env spec was now r → IfOk r (λ o. IfSome o (LeadsToSpot reads own step p env spec))
-spots_of reads own step p env spec was now (Err why) h = tt
-spots_of reads own step p env spec was now (Ok None) h = tt
-spots_of reads own step p env spec was now (Ok (Some spot)) h = record { found = told_found (known_of (take spot.reads reads)) own (lead step p env spec) _ h.tells.says; fits = h.spot }
-
-module _ {R L : Type 0} {m : Meaning R} {was now : Session R L} {p : List (List ℕ)} {env : Bindings} {spec : SpecTree} where
-  pub leads_of : {step : Step} {r : Result (Option Spot) Stop} → OnlyCounts was now → LeadsAt step p env spec was.steps now.steps r → LeadsTo m step p env spec was now r
-  leads_of {step = step} {r = r} still h = record {
-    follows = tells_on r still h.tells;
-    spot = spots_of (m.reads now.reader.now) (own_at now.own) step p env spec was.steps now.steps r h;
-  }
-
-  pub enters_of : {rule : Address → Ask (Answered Address)} {r : Result Entry Halt} → OnlyCounts was now → EntersAt rule p env spec was.steps now.steps r → Enters m rule p env spec was now r
-  enters_of {r = r} still h = record { follows = λ a. tells_on (split r) still (h.tells a); leads = h.leads (m.reads now.reader.now) (own_at now.own) }

@@ -4,9 +4,9 @@ use Rattle.fx_zip.proofs.Prelude.{PlaceTree, placed, lead, place, SpecTree, Stop
 use Rattle.fx_zip.proofs.Prelude.{refused, Session, own_at}
 use Rattle.fx_spec.specs.Place as place
 use Rattle.fx_view.specs.declared.reader.Stop.TheVariants as stop
-use Rattle.fx_zip.specs.declared.step.Step.{Step}
+use Rattle.fx_steps.specs.declared.step.Step.{Step}
 use Rattle.fx_zip.proofs.Standing.{found_place, found_entered}
-use Rattle.fx_zip.proofs.Turning.{turned_at, length-turned, same_ends}
+use Rattle.fx_steps.proofs.Turning.{turned_at, length-turned, same_ends}
 use Rattle.fx_zip.proofs.Sessions.{frames_on, stops_as, found_on, memory_after, answers_as}
 
 -- the first step that has no frame

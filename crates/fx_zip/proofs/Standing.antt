@@ -1,6 +1,6 @@
 -- Zippers whose frames are found: what is known of their place, with more reads, one frame more, and one step less.
-use Rattle.fx_zip.proofs.Prelude.{ReadList, ◌≡◌, ℕ, zero, suc, ◌<◌, true, false, cond, List, [], ◌∷◌, ◌++◌, length, take, drop, Option, Some, None, Ok, refl, sym, ap, ◌∙◌, subst, arith, length-append, take-append-drop, nat_eq, IfSome}
-use Rattle.fx_zip.proofs.Prelude.{unwrap_or, append-nil, eq-eqb, Node, Known, Found, follow, AgreesWith, answer, changed, Store, eval_of, ExprTree, set_answer, Bindings, with_some, Step, First, Second, Inside, Down, Body, Elem, Address}
+use Rattle.fx_zip.proofs.Prelude.{ReadList, ◌≡◌, ℕ, zero, suc, ◌<◌, true, false, cond, List, [], ◌∷◌, ◌++◌, length, take, drop, Option, Some, None, refl, sym, ap, ◌∙◌, subst, arith, length-append, take-append-drop, nat_eq, IfSome}
+use Rattle.fx_zip.proofs.Prelude.{unwrap_or, append-nil, eq-eqb, Node, Known, Found, follow, AgreesWith, answer, changed, Store, Bindings, with_some, Step, First, Second, Inside, Down, Body, Elem, Address}
 use Rattle.fx_zip.proofs.Prelude.{placed, lead, place, IsDescribedPlace, SpecTree, IsDescription, known_of, follow-bind, found_more, found_answer, HasScope, Frame, Spot, around, around_last, IsHeldSet, IsSetOf, AreFound, IsFresh, Stands}
 use Rattle.fx_zip.proofs.Prelude.{left, last_step, last_set, last_caller, is_element, set_behind, child, part, grown, framed, LeadsToSpot, entered, ZipTree, path_of, is_settled, IsSettled, here}
 use Rattle.std.proofs.lemmas.Bool.Decides.{nat_tests}
@@ -193,7 +193,3 @@ fresh_none known own z frames env none = record {
   found = subst (λ fs. AreFound known own z.root [] fs z.env) (sym frames) env;
   set = subst (λ set. IsSetOf set z.env (part z.root z.address)) (sym none) tt;
 }
-
--- what is kept at a comprehension
-pub kept_set : (set : Option (List (List ℕ))) (env : Bindings) (s d : SpecTree) (x : List ℕ) (e : ExprTree) → s ≡ SpecTree.comp d x e → IsSetOf set env s → (known : List (List ℕ)) → set ≡ Some known → set_answer (eval_of env e) ≡ Ok known
-kept_set set env s d x e form h known is = subst (λ o. IsSetOf o env (SpecTree.comp d x e)) is (subst (IsSetOf set env) form h)

@@ -23,12 +23,14 @@ use Rattle.fx_session.specs.declared.session.Session.{Session}
 use Rattle.fx_session.specs.Implements.{Implements, Answers}
 use Rattle.fx_session.specs.Answering.{answered}
 use Rattle.fx_session.specs.Halts.{split}
-use Rattle.fx_zip.specs.declared.frame.Entry.{Entry}
-use Rattle.fx_zip.specs.Fresh.{IsSetOf, AreFound, Stands, IsFreshIn, StandsIn, left}
-use Rattle.fx_zip.specs.Parts.{part}
-use Rattle.fx_zip.specs.Spots.{LeadsFrom}
-use Rattle.fx_zip.specs.Steps.{step_tree}
-use Rattle.fx_zip.specs.Trees.{ZipTree, is_settled, IsSettled, path_of, here}
+use Rattle.fx_steps.specs.declared.frame.Entry.{Entry}
+use Rattle.fx_steps.specs.Around.{IsSetOf}
+use Rattle.fx_zip.specs.Fresh.{AreFound, Stands, IsFreshIn, StandsIn, left}
+use Rattle.fx_steps.specs.Parts.{part}
+use Rattle.fx_zip.specs.Entered.{LeadsFrom}
+use Rattle.fx_steps.specs.Steps.{step_tree}
+use Rattle.fx_zip.specs.Trees.{ZipTree, is_settled, IsSettled, here}
+use Rattle.fx_steps.specs.Frames.{path_of}
 
 -- what holds where the rules refuse a call
 abbrev pub OnRefused : {X : Type 0} → Result X Halt → Type 0 → Type 0

@@ -3,41 +3,17 @@ use Rattle.fx_view.specs.ReadList.{ReadList}
 use Rattle.fx_view.specs.Meaning.{Meaning}
 use Rattle.fx_view.specs.Own.{own_at}
 use Rattle.fx_view.specs.Reads.{known_of}
-use Rattle.std.specs.Prelude.{◌≡◌, ℕ, ◌-◌, Bool, true, false, cond, List, [], ◌∷◌, ◌++◌, length, take, drop, Option, Some, None, Ok, ◌&&◌, nat_le}
-use Rattle.std.specs.Option.{unwrap_or}
+use Rattle.std.specs.Prelude.{◌≡◌, ℕ, ◌-◌, Bool, true, false, cond, List, [], ◌∷◌, ◌++◌, length, take, drop, Option, Some, None}
 use Rattle.fx_store.specs.Rule.{Known, Found, follow}
-use Rattle.fx_expr.specs.Eval.{Outcome, eval_of}
 use Rattle.fx_spec.specs.Describe.{Bindings}
-use Rattle.fx_spec.specs.Place.{Step, First, Second, Body, Elem, Address, placed, lead}
+use Rattle.fx_spec.specs.Place.{Step, First, Second, Elem, Address, placed, lead}
 use Rattle.fx_spec.specs.SpecTree.{SpecTree}
 use Rattle.fx_session.specs.declared.session.Session.{Session}
-use Rattle.fx_zip.specs.declared.frame.Frame.{Frame}
-use Rattle.fx_zip.specs.Parts.{child, part}
-use Rattle.fx_zip.specs.Telling.{set_answer}
-use Rattle.fx_zip.specs.Trees.{ZipTree, path_of, is_settled}
-
--- the names bound around a step: to a second part and to an element it binds one more, and in a body the parameters alone are
--- bound, so that its frame keeps the caller's names
-abbrev pub around : Step → Option Bindings → Bindings → Bindings
-around Second caller env = take (length env - 1) env
-around (Elem t) caller env = take (length env - 1) env
-around Body caller env = unwrap_or caller env
-around _ caller env = env
-
--- at an element, the set that the comprehension around it has
-abbrev pub HasSet : Option (List (List ℕ)) → Outcome → Type 0
-HasSet None o = ⊥
-HasSet (Some set) o = set_answer o ≡ Ok set
-
-abbrev pub IsHeldSet : Step → Option (List (List ℕ)) → Bindings → SpecTree → Type 0
-IsHeldSet (Elem t) set env (SpecTree.comp s x e) = HasSet set (eval_of env e)
-IsHeldSet _ set env spec = Unit {0}
-
--- a set that is kept at a comprehension is its set
-abbrev pub IsSetOf : Option (List (List ℕ)) → Bindings → SpecTree → Type 0
-IsSetOf None env spec = Unit {0}
-IsSetOf (Some set) env (SpecTree.comp s x e) = set_answer (eval_of env e) ≡ Ok set
-IsSetOf (Some set) env spec = Unit {0}
+use Rattle.fx_steps.specs.declared.frame.Frame.{Frame}
+use Rattle.fx_steps.specs.Around.{around, IsHeldSet, IsSetOf}
+use Rattle.fx_steps.specs.Frames.{path_of, last_step, is_element, last_set, last_caller, around_last, are_told}
+use Rattle.fx_steps.specs.Parts.{child, part}
+use Rattle.fx_zip.specs.Trees.{ZipTree, is_settled}
 
 -- each step leads from the frame before it to its own, by what the first reads say, as many as the frame tells
 abbrev pub AreFound : ReadList → Known → SpecTree → Address → List Frame → Bindings → Type 0
@@ -69,10 +45,6 @@ IsFreshIn m s z = IsFresh (m.reads s.reader.now) (own_at s.own) z
 abbrev pub StandsIn : {R L : Type 0} → Meaning R → Session R L → ZipTree → Type 0
 StandsIn m s z = Stands (m.reads s.reader.now) (own_at s.own) z
 
-abbrev pub last_step : Address → Option Step
-last_step [] = None
-last_step (step ∷ above) = Some step
-
 -- the step is that to a first part, or to a second
 abbrev pub is_first : Option Step → Bool
 is_first (Some First) = true
@@ -82,25 +54,9 @@ abbrev pub is_second_step : Option Step → Bool
 is_second_step (Some Second) = true
 is_second_step _ = false
 
-abbrev pub is_element : Option Step → Bool
-is_element (Some (Elem t)) = true
-is_element _ = false
-
-abbrev pub last_set : List Frame → Option (List (List ℕ))
-last_set [] = None
-last_set (f ∷ fs) = f.set
-
 -- at an element, the set around it, which its frame keeps
 abbrev pub set_behind : ZipTree → Option (List (List ℕ))
 set_behind z = cond (is_element (last_step z.address)) (last_set z.frames) None
-
-abbrev pub last_caller : List Frame → Option Bindings
-last_caller [] = None
-last_caller (f ∷ fs) = f.caller
-
-abbrev pub around_last : Address → Option Bindings → Bindings → Bindings
-around_last [] caller env = env
-around_last (step ∷ above) caller env = around step caller env
 
 -- without the last step's frame
 abbrev pub unframed : ZipTree → ZipTree
@@ -124,11 +80,6 @@ left z =
 -- the zipper does not stand at an element whose set is kept
 abbrev pub IsNoElement : ZipTree → Type 0
 IsNoElement z = (t : List ℕ) → last_step z.address ≡ Some (Elem t) → last_set z.frames ≡ None
-
--- each frame's place is told by as many reads at most
-abbrev pub are_told : ℕ → List Frame → Bool
-are_told n [] = true
-are_told n (f ∷ fs) = nat_le f.reads n && are_told n fs
 
 -- the names bound before the last of so many steps
 abbrev pub around_frame : Address → List Frame → Bindings → Bindings

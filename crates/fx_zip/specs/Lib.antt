@@ -1,10 +1,7 @@
-pub mod Steps
-pub mod Parts
 pub mod Trees
 pub mod View
-pub mod Telling
 pub mod Fresh
-pub mod Spots
+pub mod Entered
 pub mod Calls
 pub mod Asking
 pub mod Worked

@@ -1,14 +1,15 @@
 -- What contracts see of a zipper.
-use Rattle.std.specs.Prelude.{◌≡◌, ℕ, zero, suc, Bool, true, List, [], ◌∷◌, length, Option, nat_eq, refl}
+use Rattle.std.specs.Prelude.{◌≡◌, ℕ, zero, suc, Bool, true, List, [], length, Option, nat_eq, refl}
 use Rattle.std.specs.Coded.{Coded, code_by, coded×, coded_ℕ, coded_list, coded_option}
 use Rattle.fx_expr.specs.Codes.{coded_bytes, coded_bindings}
 use Rattle.fx_spec.specs.Codes.{coded_spec}
 use Rattle.fx_spec.specs.Describe.{Bindings}
 use Rattle.fx_spec.specs.Place.{Step, First, Second, Inside, Down, Body, Elem, Address, PlaceTree, placed}
 use Rattle.fx_spec.specs.SpecTree.{SpecTree}
-use Rattle.fx_zip.specs.contracts.frame.Frame as frame
-use Rattle.fx_zip.specs.declared.frame.Frame.{Frame}
-use Rattle.fx_zip.specs.Parts.{part}
+use Rattle.fx_steps.specs.contracts.frame.Frame as frame
+use Rattle.fx_steps.specs.declared.frame.Frame.{Frame}
+use Rattle.fx_steps.specs.Frames.{path_of}
+use Rattle.fx_steps.specs.Parts.{part}
 
 -- the root description, the address, the frames of its first steps, both with the last first, the names bound at the last
 -- frame, and the set of the comprehension at which the zipper stands, where it's kept
@@ -18,11 +19,6 @@ pub record ZipTree : Type 0 where
   pub frames : List Frame
   pub env : Bindings
   pub set : Option (List (List ℕ))
-
--- the path of the last frame, or the root path
-abbrev pub path_of : List Frame → List (List ℕ)
-path_of [] = []
-path_of (f ∷ fs) = f.path
 
 -- each step has its frame
 abbrev pub is_settled : ZipTree → Bool

@@ -1,6 +1,6 @@
 -- A zipper of the program, as contracts see it.
 use Rattle.fx_zip.specs.declared.zip.Zip.TheInside.{Inside}
-use Rattle.fx_zip.specs.Steps.{step_tree, turned}
+use Rattle.fx_steps.specs.Steps.{step_tree, turned}
 use Rattle.fx_zip.specs.Trees.{ZipTree}
 
 abbrev pub zip_tree : Inside → ZipTree

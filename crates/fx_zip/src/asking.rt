@@ -10,11 +10,12 @@ ghost use Rattle.fx_zip.specs.Fresh.{IsFreshIn, StandsIn};
 ghost use Rattle.fx_zip.specs.Trees.{here};
 
 use crate::fetching::answer_at;
-use crate::part::part;
 use crate::question::Question;
-use crate::zip::{Zip, last_path};
+use crate::zip::Zip;
 use fx_expr::Value;
 use fx_session::{Halt, Session};
+use fx_steps::frames::last_path;
+use fx_steps::part::part;
 use fx_view::Reader;
 use std::sync::ledger::Ledger;
 

@@ -10,19 +10,18 @@ ghost use Rattle.fx_spec.specs.Place.{placed};
 ghost use Rattle.fx_spec.specs.SpecTree.{SpecTree};
 ghost use Rattle.fx_spec.specs.Parts.{part_of};
 ghost use Rattle.fx_session.specs.Implements.{Answers};
-ghost use Rattle.fx_walk.specs.Scopes.{HasScope};
+ghost use Rattle.fx_session.specs.Scopes.{HasScope};
 ghost use Rattle.fx_zip.specs.Asking.{asked_at, IsTruth};
 ghost use Rattle.fx_zip.specs.Calls.{value_needed};
 
-use crate::evaluating::evaluate;
 use crate::question::Question;
-use crate::shapes::{asks_flag, has_fetch_shape, has_value_shape};
 use fx_expr::{Env, Shape, Value};
-use fx_session::{Halt, Session};
+use fx_session::{Halt, Session, exists};
 use fx_spec::{Form, Part, Refusal};
+use fx_steps::{asks_flag, evaluate, has_fetch_shape, has_value_shape};
 use fx_store::Path;
 use fx_view::Reader;
-use fx_walk::{exists, file_flag, value_in};
+use fx_walk::{file_flag, value_in};
 use std::sync::ledger::Ledger;
 
 /// The answer to a question at a place. The environment is as before on every way out.

@@ -3,20 +3,13 @@
 #![tactic(auto)]
 
 mod asking;
-mod evaluating;
 mod fetching;
-mod forms;
-mod frame;
 pub mod laws;
 mod leading;
 mod moves;
-mod moving;
-mod part;
 mod question;
 mod settling;
-mod shapes;
 mod sideways;
-mod step;
 mod zip;
 
 pub use question::Question;

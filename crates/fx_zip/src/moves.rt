@@ -3,10 +3,10 @@ ghost use Rattle.fx_spec.specs.Move as move;
 ghost use Rattle.fx_zip.specs.Calls.{MovesBy};
 ghost use Rattle.fx_zip.specs.Fresh.{IsFreshIn};
 
-use crate::moving::{down, into, to};
 use crate::zip::Zip;
 use fx_expr::Text;
 use fx_session::{Halt, Session};
+use fx_steps::moving::{down, into, to};
 use fx_view::Reader;
 use std::sync::ledger::Ledger;
 

@@ -3,18 +3,19 @@ ghost use Rattle.std.specs.Prelude.{◌≡◌, IfOk, false};
 ghost use Rattle.fx_spec.specs.Shaped.{IsDescribedPlace};
 ghost use Rattle.fx_spec.specs.WellShaped.{AreDefined};
 ghost use Rattle.fx_session.specs.Implements.{Answers};
-ghost use Rattle.fx_walk.specs.Places.{place_tree};
+ghost use Rattle.fx_session.specs.Places.{place_tree};
 ghost use Rattle.fx_zip.specs.Calls.{Finds, SettlesFrames, Evaluates, place_needed};
 ghost use Rattle.fx_zip.specs.Fresh.{IsFreshIn};
-ghost use Rattle.fx_zip.specs.Spots.{LeadsNext};
+ghost use Rattle.fx_zip.specs.Entered.{LeadsNext};
 ghost use Rattle.fx_zip.specs.Trees.{is_settled};
 
-use crate::frame::Spot;
 use crate::leading::led;
-use crate::part::part;
-use crate::zip::{Zip, last_path};
+use crate::zip::Zip;
 use fx_session::{Halt, Session};
 use fx_spec::{Place, Refusal};
+use fx_steps::Spot;
+use fx_steps::frames::last_path;
+use fx_steps::part::part;
 use fx_view::{Reader, Stop};
 use std::sync::ledger::Ledger;
 

@@ -5,7 +5,8 @@ ghost use Rattle.std.specs.Option.{option_map};
 ghost use Rattle.fx_store.specs.Rule.{answer};
 ghost use Rattle.fx_expr.specs.Views.{tree_of};
 ghost use Rattle.fx_spec.specs.Shaped.{IsDescribedPlace};
-ghost use Rattle.fx_walk.specs.Places.{place_tree, value_at as rule_at};
+ghost use Rattle.fx_session.specs.Places.{place_tree};
+ghost use Rattle.fx_walk.specs.Places.{value_at as rule_at};
 ghost use Rattle.fx_commands.specs.Shows.Shown as print;
 ghost use Rattle.fx_commands.specs.Shows.Shown.{root_value};
 

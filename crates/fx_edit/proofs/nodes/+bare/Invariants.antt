@@ -1,5 +1,5 @@
 use Rattle.fx_spec.specs.Parts.{part_of}
-use Rattle.fx_walk.proofs.Sizes.{size}
+use Rattle.fx_session.proofs.Sizes.{size}
 use Rattle.fx_edit.proofs.nodes.+bare.Given as goal
 
 abbrev pub decreases-bare : goal.decreases-bare

@@ -1,6 +1,6 @@
 use Rattle.fx_spec.proofs.EditLaws.{edits_keep_whole}
 use Rattle.fx_spec.proofs.EditLooks.{edits_look_at_changes}
-use Rattle.fx_walk.specs.Places.{place_tree}
+use Rattle.fx_session.specs.Places.{place_tree}
 use Rattle.fx_edit.proofs.Done.{edits_done, edits_late, edits_halt}
 use Rattle.fx_edit.proofs.Untouched.{untouched_same, untouched_next}
 use Rattle.fx_edit.proofs.removing.remove.Goals as goal

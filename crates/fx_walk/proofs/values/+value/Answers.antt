@@ -8,11 +8,11 @@ use Rattle.fx_spec.specs.Describe.{Bindings, is_true, value}
 use Rattle.fx_spec.specs.SpecTree.{SpecTree}
 use Rattle.fx_spec.specs.Parts.{part_of}
 use Rattle.fx_session.proofs.Calls.{refused, found_as}
-use Rattle.fx_walk.specs.Scopes.{HasScope, HasTextScope}
-use Rattle.fx_walk.specs.Arguments.{inner_names}
+use Rattle.fx_session.specs.Scopes.{HasScope, HasTextScope}
+use Rattle.fx_session.specs.Arguments.{inner_names}
 use Rattle.fx_walk.specs.Given.{mapped, Pairs}
 use Rattle.fx_walk.proofs.Forms.{of_env, of_tree, file_follows, dir_follows, link_follows, focus_refused, focus_none, focus_follows, table_refused, table_none, table_follows, pred_follows, pair_stops, pair_none, pair_follows, option_stops, option_none, option_follows, call_refused, call_none, call_follows, last_none, mapped_stops, mapped_refused, mapped_answers, pairs_follow}
-use Rattle.fx_walk.proofs.ArgumentsLemmas.{fault_given}
+use Rattle.fx_session.proofs.ArgumentsLemmas.{fault_given}
 use Rattle.fx_walk.proofs.Rows.{at_first, cut_back, row_refused, rows_end, row_stops, row_none, row_next}
 use Rattle.fx_walk.proofs.Shapes.{focus_part, pair_first, pair_second, comp_part, opt_part, call_body}
 use Rattle.fx_walk.proofs.values.+value.Goals as goal

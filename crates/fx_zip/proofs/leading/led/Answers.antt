@@ -1,5 +1,5 @@
 use Rattle.fx_zip.proofs.Prelude.{sym, subst, refl, part_of, LeadsTo, step_tree}
-use Rattle.fx_zip.proofs.Sessions.{leads_of}
+use Rattle.fx_steps.proofs.Sessions.{leads_of}
 use Rattle.fx_zip.proofs.leading.led.Goals as goal
 
 pub returns-in-First-clause-leads : goal.returns-in-First-clause-leads

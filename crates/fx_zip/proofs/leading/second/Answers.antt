@@ -1,5 +1,5 @@
 use Rattle.fx_zip.proofs.Prelude.{part_of}
-use Rattle.fx_zip.proofs.Consulting.{second_leads, second_form}
+use Rattle.fx_zip.proofs.Seconds.{second_leads, second_form}
 use Rattle.fx_zip.proofs.leading.second.Goals as goal
 
 pub returns-in-Some-clause-leads : goal.returns-in-Some-clause-leads

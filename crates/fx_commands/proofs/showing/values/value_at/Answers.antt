@@ -4,7 +4,8 @@ use Rattle.std.specs.Option.{option_map}
 use Rattle.fx_expr.specs.Views.{tree_of}
 use Rattle.fx_view.specs.Own.{own_at}
 use Rattle.fx_view.proofs.Wholes.{of_agrees}
-use Rattle.fx_walk.specs.Places.{place_tree, value_at}
+use Rattle.fx_session.specs.Places.{place_tree}
+use Rattle.fx_walk.specs.Places.{value_at}
 use Rattle.fx_commands.proofs.Shows.Alone.{alone_answer, alone_needs}
 use Rattle.fx_commands.proofs.showing.values.value_at.Goals as goal
 

@@ -1,5 +1,5 @@
 use Rattle.fx_spec.specs.Edit as edit
-use Rattle.fx_walk.specs.Places.{place_tree}
+use Rattle.fx_session.specs.Places.{place_tree}
 use Rattle.fx_run.proofs.Edited.{unfound_acts, failed_acts, edited_acts}
 use Rattle.fx_run.proofs.walk.Walk.remove.Goals as goal
 

@@ -1,5 +1,5 @@
 use Rattle.fx_zip.proofs.Prelude.{◌≡◌, List, [], sym, ap, ◌∙◌, subst, drop, rules, Bindings, part_of, IsDescription, own_at, Frame, part, step_tree, turned, ZipTree, path_of, zip_tree}
-use Rattle.fx_zip.specs.declared.step.Step.{Step}
+use Rattle.fx_steps.specs.declared.step.Step.{Step}
 use Rattle.fx_zip.proofs.Around.{no_pair_around, first_scope, first_leads_on}
 use Rattle.fx_zip.proofs.zip.Zip.after_first.Goals as goal
 

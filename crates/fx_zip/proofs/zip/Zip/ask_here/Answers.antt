@@ -1,5 +1,5 @@
 use Rattle.fx_zip.proofs.Prelude.{◌≡◌, List, [], ap, subst, sym, ◌∙◌, rules, tree_of, Bindings, part_of, IsDescription, own_at, asked_at, Frame, part, step_tree, turned, ZipTree, path_of, zip_tree}
-use Rattle.fx_zip.specs.declared.step.Step.{Step}
+use Rattle.fx_steps.specs.declared.step.Step.{Step}
 use Rattle.fx_zip.proofs.Places.{here_scope}
 use Rattle.fx_zip.proofs.Questions.{followed_here}
 use Rattle.fx_zip.proofs.zip.Zip.ask_here.Goals as goal

@@ -1,6 +1,6 @@
 use Rattle.fx_zip.proofs.Prelude.{Ok, Err, refl, go_down, from_place, part_of, own_at, place_evals}
 use Rattle.fx_zip.proofs.Places.{moves_unfound, here_scope, enters_here, moved_in, moved_memory, moved_not}
-use Rattle.fx_zip.proofs.Sessions.{enters_of}
+use Rattle.fx_steps.proofs.Sessions.{enters_of}
 use Rattle.fx_zip.proofs.zip.Zip.go_down.Goals as goal
 
 pub returns-in_err-find : goal.returns-in_err-find

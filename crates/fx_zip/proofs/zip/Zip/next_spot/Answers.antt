@@ -1,5 +1,5 @@
 use Rattle.fx_zip.proofs.Prelude.{◌≡◌, List, length, take, [], subst, ap, ◌∙◌, sym, arith, rules, length-take, Bindings, part_of, IsDescription, own_at, Frame, part, step_tree, turned, ZipTree, path_of, zip_tree}
-use Rattle.fx_zip.specs.declared.step.Step.{Step}
+use Rattle.fx_steps.specs.declared.step.Step.{Step}
 use Rattle.fx_zip.proofs.Nexting.{few_here, scope_next, leads_next}
 use Rattle.fx_zip.proofs.zip.Zip.next_spot.Goals as goal
 

@@ -1,6 +1,6 @@
 use Rattle.fx_zip.proofs.Prelude.{IsDescribedPlace, AreDefined, own_at}
 use Rattle.std.proofs.lemmas.Result.{IfOk-from_err}
-use Rattle.fx_walk.specs.Places.{place_tree}
+use Rattle.fx_session.specs.Places.{place_tree}
 use Rattle.fx_zip.proofs.Finding.{hands_found, hands_unfound}
 use Rattle.fx_zip.proofs.zip.Zip.place.Goals as goal
 

@@ -1,6 +1,6 @@
 use Rattle.fx_zip.proofs.Prelude.{◌≡◌, List, ◌-◌, length, drop, None, ap, ◌∙◌, arith, around_last, around_frame, shorter, step_tree, turned, ZipTree, zip_tree}
-use Rattle.fx_zip.specs.declared.step.Step.{Step}
-use Rattle.fx_zip.proofs.Turning.{length-turned}
+use Rattle.fx_steps.specs.declared.step.Step.{Step}
+use Rattle.fx_steps.proofs.Turning.{length-turned}
 use Rattle.fx_zip.proofs.zip.Zip.shorten.Goals as goal
 
 pub returns : goal.returns

@@ -1,5 +1,5 @@
 use Rattle.fx_zip.proofs.Prelude.{refl, ◌∙◌, Entry, prev_at, here}
-use Rattle.fx_zip.specs.declared.step.Step.TheVariants as step
+use Rattle.fx_steps.specs.declared.step.Step.TheVariants as step
 use Rattle.fx_zip.proofs.Beside.{replaced, replace_memory, first_besides}
 use Rattle.fx_zip.proofs.zip.Zip.to_first.Goals as goal
 

@@ -1,0 +1,9 @@
+pub mod Prelude
+pub mod Arguments
+pub mod Turning
+pub mod Told
+pub mod Telling
+pub mod Sessions
+pub mod Leads
+pub mod Entering
+pub mod Consulting

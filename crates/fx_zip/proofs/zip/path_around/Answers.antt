@@ -1,6 +1,0 @@
-use Rattle.fx_zip.proofs.Prelude.{sym, ap, ◌∙◌, drop, turned, path_of}
-use Rattle.fx_zip.proofs.Turning.{turned-last}
-use Rattle.fx_zip.proofs.zip.path_around.Goals as goal
-
-pub returns-in-Some : goal.returns-in-Some
-returns-in-Some c = c.last_path.ensures ∙ ap (λ fs. path_of (drop 1 fs)) (sym (ap (turned (λ f. f)) c.in-Some.ensures.cases.0 ∙ turned-last (λ f. f) c.in-Some.front.now c.in-Some.field-0-0.now))
