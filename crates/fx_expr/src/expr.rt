@@ -52,7 +52,7 @@ pub enum UnOp {
 }
 
 /// An expression.
-#[derive(Debug, PartialEq)]
+#[derive(Debug)]
 pub enum Expr {
     Str(Text),
     Int(i64),

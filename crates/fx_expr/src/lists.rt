@@ -1,9 +1,9 @@
-ghost use Rattle.std.specs.Prelude.{◌≡◌, ◌↔◌, ◌++◌, [], ◌∷◌, IfOk, IsTrue, OnOk, OnErr, length, map, slice_get};
+ghost use Rattle.std.specs.Prelude.{◌≡◌, ◌++◌, [], ◌∷◌, OnOk, OnErr, length, map, slice_get};
 ghost use Rattle.std.specs.Slice.Iter.{iter_rest};
-ghost use Rattle.std.specs.Option.{option_map, option_copied};
+ghost use Rattle.std.specs.Option.{option_copied};
 ghost use Rattle.fx_expr.specs.Views.{tree_of};
 
-use crate::value::{Value, are_same, copy_values};
+use crate::value::Value;
 use fx_base::NoMemory;
 use fx_text::Text;
 use std::alloc::Global;
@@ -54,26 +54,12 @@ impl Values {
         self.items.len() as u64
     }
 
-    /// The value at `i`; None exactly from `len` on.
-    pub fn at(&self, i: u64) -> Option<&Value>
-        ensures { option_map (λ value. tree_of value.now) result ≡ slice_get self.now i }
-    {
-        self.items.get(i as usize)
-    }
-
     /// The values, from the first.
     pub fn iter(&self) -> slice::Iter<'_, Value>
         ensures rest { map tree_of (iter_rest result) ≡ self.now }
         ensures len { length (iter_rest result) ≡ length self.now }
     {
         self.items.iter()
-    }
-
-    /// Whether the lists are equal, value by value.
-    pub fn is_same(&self, other: &Values) -> bool
-        ensures { IsTrue result ↔ (self.now ≡ other.now) }
-    {
-        are_same(self.items.as_slice(), other.items.as_slice())
     }
 
     /// Adds a value at the end. A refusal changes nothing.
@@ -83,14 +69,6 @@ impl Values {
     {
         self.items.push(item)?;
         Ok(())
-    }
-
-    /// An equal list of its own.
-    pub fn copy(&self, alloc: Global) -> Result<Values, NoMemory>
-        ensures { IfOk result (λ values. values ≡ self.now) }
-    {
-        let items = copy_values(alloc, self.items.as_slice())?;
-        Ok(Values { items })
     }
 }
 
@@ -139,14 +117,6 @@ impl Texts {
         self.items.get(i as usize)
     }
 
-    /// The texts, from the first.
-    pub fn iter(&self) -> slice::Iter<'_, Text>
-        ensures rest { iter_rest result ≡ self.now }
-        ensures len { length (iter_rest result) ≡ length self.now }
-    {
-        self.items.iter()
-    }
-
     /// Adds a text at the end. A refusal changes nothing.
     pub fn add(&mut self, _alloc: Global, item: Text) -> Result<(), NoMemory>
         ensures ok { OnOk result (self.new ≡ self.old ++ item ∷ []) }
@@ -154,14 +124,5 @@ impl Texts {
     {
         self.items.push(item)?;
         Ok(())
-    }
-
-    /// An equal list of its own.
-    pub fn copy(&self, alloc: Global) -> Result<Texts, NoMemory>
-        ensures { IfOk result (λ texts. texts ≡ self.now) }
-    {
-        Ok(Texts {
-            items: Vec::from_clones(alloc, self.items.as_slice())?,
-        })
     }
 }
