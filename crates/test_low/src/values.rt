@@ -1,5 +1,5 @@
 use fx_base::NoMemory;
-use fx_expr::{Env, Expr, Keyed, Shape, Text, TextSet, Value, Word};
+use fx_expr::{Env, Keyed, Shape, Text, TextSet, Value, Word};
 use std::alloc::Global;
 
 fn copied_text(alloc: Global) -> Result<u64, NoMemory> {
@@ -30,14 +30,6 @@ fn copied_shape(alloc: Global) -> Result<bool, NoMemory> {
     Ok(copy.same(&shape))
 }
 
-fn copied_expression(alloc: Global) -> Result<i64, NoMemory> {
-    let expr = Box::new(alloc, Expr::Int(9))?;
-    match &expr.copy(alloc)? {
-        Expr::Int(n) => Ok(*n),
-        _ => Err(NoMemory),
-    }
-}
-
 #[test]
 fn copies_are_made_with_ample_memory(rt: HostRuntime) {
     let alloc = rt.alloc();
@@ -45,7 +37,6 @@ fn copies_are_made_with_ample_memory(rt: HostRuntime) {
     assert!(rt; copied_table(alloc).is_ok());
     assert_eq!(rt; copied_names(alloc), Ok(1));
     assert_eq!(rt; copied_shape(alloc), Ok(true));
-    assert_eq!(rt; copied_expression(alloc), Ok(9));
 }
 
 fn bind(alloc: Global, env: &mut Env, word: &Word, n: i64) -> Result<(), NoMemory> {
