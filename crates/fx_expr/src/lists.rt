@@ -1,11 +1,9 @@
-ghost use Rattle.std.specs.Prelude.{◌≡◌, ◌++◌, [], ◌∷◌, OnOk, OnErr, length, map, slice_get};
+ghost use Rattle.std.specs.Prelude.{◌≡◌, ◌++◌, [], ◌∷◌, OnOk, OnErr, length, map};
 ghost use Rattle.std.specs.Slice.Iter.{iter_rest};
-ghost use Rattle.std.specs.Option.{option_copied};
 ghost use Rattle.fx_expr.specs.Views.{tree_of};
 
 use crate::value::Value;
 use fx_base::NoMemory;
-use fx_text::Text;
 use std::alloc::Global;
 use std::marker::Model;
 use std::slice;
@@ -65,61 +63,6 @@ impl Values {
     /// Adds a value at the end. A refusal changes nothing.
     pub fn add(&mut self, _alloc: Global, item: Value) -> Result<(), NoMemory>
         ensures ok { OnOk result (self.new ≡ self.old ++ tree_of item ∷ []) }
-        ensures err { OnErr result (self.new ≡ self.old) }
-    {
-        self.items.push(item)?;
-        Ok(())
-    }
-}
-
-/// A list of texts.
-#[derive(Debug)]
-pub struct Texts {
-    items: Vec<Text>,
-}
-
-/// It is written out, so that its parts are dropped in this crate alone.
-impl Drop for Texts {
-    fn drop(self) {
-        let Texts { items: _items } = self;
-    }
-}
-
-impl Model for Texts {
-    ghost use Rattle.std.specs.Prelude.{List, ℕ};
-
-    ghost Value = { List (List ℕ) };
-
-    ghost view = { λ t. t.items.items };
-}
-
-impl Texts {
-    /// The empty list.
-    pub fn new(alloc: Global) -> Texts
-        ensures { result ≡ [] }
-    {
-        Texts {
-            items: Vec::new(alloc),
-        }
-    }
-
-    /// The number of texts.
-    pub fn len(&self) -> u64
-        ensures { result ≡ length self.now }
-    {
-        self.items.len() as u64
-    }
-
-    /// The text at `i`; None exactly from `len` on.
-    pub fn at(&self, i: u64) -> Option<&Text>
-        ensures { option_copied result ≡ slice_get self.now i }
-    {
-        self.items.get(i as usize)
-    }
-
-    /// Adds a text at the end. A refusal changes nothing.
-    pub fn add(&mut self, _alloc: Global, item: Text) -> Result<(), NoMemory>
-        ensures ok { OnOk result (self.new ≡ self.old ++ item ∷ []) }
         ensures err { OnErr result (self.new ≡ self.old) }
     {
         self.items.push(item)?;
