@@ -7,4 +7,5 @@ pub mod Legal
 pub mod Lists
 pub mod Now
 pub mod Placing
+pub mod Sameness
 pub mod Trying

@@ -11,6 +11,7 @@ ghost use Rattle.fx_audit.specs.Verdicts.{turn_told, order_told, AllAnswered, Is
 
 use crate::replaying::enter;
 use crate::same::is_same_end;
+use crate::same_values::are_same_outputs;
 use fx_base::NoMemory;
 use fx_board::Board;
 use fx_report::{PrintedEntries, PrintedEntry};
@@ -26,7 +27,7 @@ fn tells(board: &Board, i: u64, told: &PrintedEntry) -> bool
 {
     match board.entry(i) {
         Some(entry) => {
-            entry.outputs.is_same(&told.outputs) && is_same_end(&entry.end, &told.end)
+            are_same_outputs(&entry.outputs, &told.outputs) && is_same_end(&entry.end, &told.end)
         }
         None => unreachable!(),
     }

@@ -10,6 +10,7 @@ mod present;
 mod replaying;
 mod retries;
 mod same;
+mod same_values;
 mod verdict;
 
 pub use auditing::audit;

@@ -1,6 +1,5 @@
 ghost use Rattle.std.specs.Prelude.{◌≡◌, ◌<◌, ◌++◌, [], ◌∷◌, List, ℕ, Some, IfOk, IfSome, OnOk, OnErr, MatchOption, None, length, slice_get, slice_set, map, take};
 ghost use Rattle.std.specs.Option.{option_map, unwrap_or};
-ghost use Rattle.std.specs.Slice.Iter.{iter_rest};
 ghost use Rattle.fx_expr.specs.Bindings.{bound, assigned, IsNewest};
 ghost use Rattle.fx_expr.specs.Views.{entry_tree, tree_of};
 
@@ -9,7 +8,6 @@ use crate::word::Word;
 use fx_base::NoMemory;
 use std::alloc::Global;
 use std::marker::Model;
-use std::slice;
 
 /// Words bound to values, the newest binding last. Where a word is bound twice, the newer binding counts. Contracts see
 /// the list of the words with the trees of their values.
@@ -63,14 +61,6 @@ impl Env {
         ensures { option_map (λ binding. entry_tree binding.now) result ≡ slice_get self.now i }
     {
         self.bindings.get(i as usize)
-    }
-
-    /// The bindings, from the oldest.
-    pub fn iter(&self) -> slice::Iter<'_, (Word, Value)>
-        ensures rest { map entry_tree (iter_rest result) ≡ self.now }
-        ensures len { length (iter_rest result) ≡ length self.now }
-    {
-        self.bindings.iter()
     }
 
     /// Binds a word to a value. A refusal changes nothing.

@@ -1,10 +1,5 @@
-ghost use Rattle.std.specs.Prelude.{◌≡◌, IfOk};
-ghost use Rattle.fx_expr.specs.Views.{expr_tree};
-
 use crate::word::Word;
-use fx_base::NoMemory;
 use fx_text::Text;
-use std::alloc::Global;
 
 /// An operator between two expressions.
 #[derive(Clone, Copy, Debug, PartialEq, Eq)]
@@ -52,7 +47,7 @@ pub enum UnOp {
 }
 
 /// An expression.
-#[derive(Debug, PartialEq)]
+#[derive(Debug)]
 pub enum Expr {
     Str(Text),
     Int(i64),
@@ -84,41 +79,4 @@ impl Drop for Expr {
             Expr::Empty => {}
         }
     }
-}
-
-impl Expr {
-    /// An equal expression of its own.
-    pub fn copy(&self, alloc: Global) -> Result<Expr, NoMemory>
-        ensures { IfOk result (λ expr. expr_tree expr ≡ expr_tree self.now) }
-    {
-        match self {
-            Expr::Str(text) => Ok(Expr::Str(text.copy(alloc)?)),
-            Expr::Int(n) => Ok(Expr::Int(*n)),
-            Expr::Bool(b) => Ok(Expr::Bool(*b)),
-            Expr::Empty => Ok(Expr::Empty),
-            Expr::Var(word) => Ok(Expr::Var(word.copy(alloc)?)),
-            Expr::Bin(op, a, b) => {
-                let first = boxed(alloc, a.copy(alloc)?)?;
-                let second = boxed(alloc, b.copy(alloc)?)?;
-                Ok(Expr::Bin(*op, first, second))
-            }
-            Expr::Un(op, a) => Ok(Expr::Un(*op, boxed(alloc, a.copy(alloc)?)?)),
-            Expr::Choose(c, a, b) => {
-                let test = boxed(alloc, c.copy(alloc)?)?;
-                let first = boxed(alloc, a.copy(alloc)?)?;
-                let second = boxed(alloc, b.copy(alloc)?)?;
-                Ok(Expr::Choose(test, first, second))
-            }
-            Expr::Only(a, glob) => {
-                let set = boxed(alloc, a.copy(alloc)?)?;
-                Ok(Expr::Only(set, glob.copy(alloc)?))
-            }
-        }
-    }
-}
-
-fn boxed(alloc: Global, expr: Expr) -> Result<Box<Expr>, NoMemory>
-    ensures { IfOk result (λ b. b.value ≡ expr) }
-{
-    Ok(Box::new(alloc, expr)?)
 }

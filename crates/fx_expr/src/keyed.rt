@@ -1,10 +1,8 @@
-ghost use Rattle.std.specs.Prelude.{◌≡◌, ◌++◌, [], ◌∷◌, OnOk, OnErr, length, slice_get, map};
-ghost use Rattle.std.specs.Option.{option_copied, option_map};
+ghost use Rattle.std.specs.Prelude.{◌≡◌, [], length};
 ghost use Rattle.std.specs.List.{zip};
-ghost use Rattle.fx_expr.specs.Rows.{keys_of, values_of, IsRows, look_up};
+ghost use Rattle.fx_expr.specs.Rows.{keys_of, values_of};
 
-use fx_base::NoMemory;
-use fx_text::{Text, TextSet};
+use fx_text::TextSet;
 use std::alloc::Global;
 use std::marker::Model;
 
@@ -57,13 +55,6 @@ impl<V> Keyed<V> {
         Keyed { keys, values }
     }
 
-    /// The number of pairs.
-    pub fn len(&self) -> u64
-        ensures { result ≡ length self.now }
-    {
-        self.keys.len()
-    }
-
     /// The texts, as a set.
     pub fn keys(&self) -> &TextSet
         ensures { result.now ≡ keys_of self.now }
@@ -77,48 +68,9 @@ impl<V> Keyed<V> {
     {
         self.values.as_slice()
     }
-
-    /// The pair at `i` in ascending order of text; None exactly from `len` on.
-    pub fn at(&self, i: u64) -> Option<(&Text, &V)>
-        ensures { option_map (λ pair. (pair.0.now, pair.1.now)) result ≡ slice_get self.now i }
-    {
-        match self.keys.at(i) {
-            None => None,
-            Some(key) => match element(self.values.as_slice(), i as usize) {
-                None => None,
-                Some(value) => Some((key, value)),
-            },
-        }
-    }
-
-    /// The value of a text; None exactly where the map has none for it. A binary search.
-    pub fn get(&self, key: &Text) -> Option<&V>
-        ensures { option_copied result ≡ look_up key.now self.now }
-    {
-        match self.keys.place(key) {
-            Some(i) => element(self.values.as_slice(), i),
-            None => None,
-        }
-    }
 }
 
 impl<V: Drop> Keyed<V> {
-    /// Adds a pair whose text is above all others. A refusal changes nothing.
-    pub fn add(&mut self, alloc: Global, key: Text, value: V) -> Result<(), NoMemory>
-        requires { IsRows (self.old ++ (key, value) ∷ []) }
-        ensures ok { OnOk result (self.new ≡ self.old ++ (key, value) ∷ []) }
-        ensures err { OnErr result (self.new ≡ self.old) }
-    {
-        self.values.push(value)?;
-        match self.keys.add(alloc, key) {
-            Ok(()) => Ok(()),
-            Err(NoMemory) => {
-                self.values.pop();
-                Err(NoMemory)
-            }
-        }
-    }
-
     /// The texts alone.
     pub fn into_keys(self) -> TextSet
         ensures { result ≡ keys_of self }
@@ -127,11 +79,4 @@ impl<V: Drop> Keyed<V> {
         drop(values);
         keys
     }
-}
-
-// `get`, with its answer as one equation.
-fn element<V>(values: &[V], i: usize) -> Option<&V>
-    ensures { option_copied result ≡ slice_get values.now i }
-{
-    values.get(i)
 }

@@ -20,7 +20,7 @@ pub use fault::{EvalFault, ExprFault};
 pub use formula::Formula;
 pub use keyed::Keyed;
 pub use laws::a_value_has_its_expressions_shape;
-pub use lists::{Texts, Values};
+pub use lists::Values;
 pub use shape::Shape;
 pub use value::{Rows, Value};
 pub use word::{WORD_LIMIT, Word};

@@ -1,11 +1,9 @@
-ghost use Rattle.std.specs.Prelude.{◌≡◌, ◌↔◌, ◌++◌, [], ◌∷◌, IfOk, IsTrue, OnOk, OnErr, length, map, slice_get};
+ghost use Rattle.std.specs.Prelude.{◌≡◌, ◌++◌, [], ◌∷◌, OnOk, OnErr, length, map};
 ghost use Rattle.std.specs.Slice.Iter.{iter_rest};
-ghost use Rattle.std.specs.Option.{option_map, option_copied};
 ghost use Rattle.fx_expr.specs.Views.{tree_of};
 
-use crate::value::{Value, are_same, copy_values};
+use crate::value::Value;
 use fx_base::NoMemory;
-use fx_text::Text;
 use std::alloc::Global;
 use std::marker::Model;
 use std::slice;
@@ -54,26 +52,12 @@ impl Values {
         self.items.len() as u64
     }
 
-    /// The value at `i`; None exactly from `len` on.
-    pub fn at(&self, i: u64) -> Option<&Value>
-        ensures { option_map (λ value. tree_of value.now) result ≡ slice_get self.now i }
-    {
-        self.items.get(i as usize)
-    }
-
     /// The values, from the first.
     pub fn iter(&self) -> slice::Iter<'_, Value>
         ensures rest { map tree_of (iter_rest result) ≡ self.now }
         ensures len { length (iter_rest result) ≡ length self.now }
     {
         self.items.iter()
-    }
-
-    /// Whether the lists are equal, value by value.
-    pub fn is_same(&self, other: &Values) -> bool
-        ensures { IsTrue result ↔ (self.now ≡ other.now) }
-    {
-        are_same(self.items.as_slice(), other.items.as_slice())
     }
 
     /// Adds a value at the end. A refusal changes nothing.
@@ -83,85 +67,5 @@ impl Values {
     {
         self.items.push(item)?;
         Ok(())
-    }
-
-    /// An equal list of its own.
-    pub fn copy(&self, alloc: Global) -> Result<Values, NoMemory>
-        ensures { IfOk result (λ values. values ≡ self.now) }
-    {
-        let items = copy_values(alloc, self.items.as_slice())?;
-        Ok(Values { items })
-    }
-}
-
-/// A list of texts.
-#[derive(Debug)]
-pub struct Texts {
-    items: Vec<Text>,
-}
-
-/// It is written out, so that its parts are dropped in this crate alone.
-impl Drop for Texts {
-    fn drop(self) {
-        let Texts { items: _items } = self;
-    }
-}
-
-impl Model for Texts {
-    ghost use Rattle.std.specs.Prelude.{List, ℕ};
-
-    ghost Value = { List (List ℕ) };
-
-    ghost view = { λ t. t.items.items };
-}
-
-impl Texts {
-    /// The empty list.
-    pub fn new(alloc: Global) -> Texts
-        ensures { result ≡ [] }
-    {
-        Texts {
-            items: Vec::new(alloc),
-        }
-    }
-
-    /// The number of texts.
-    pub fn len(&self) -> u64
-        ensures { result ≡ length self.now }
-    {
-        self.items.len() as u64
-    }
-
-    /// The text at `i`; None exactly from `len` on.
-    pub fn at(&self, i: u64) -> Option<&Text>
-        ensures { option_copied result ≡ slice_get self.now i }
-    {
-        self.items.get(i as usize)
-    }
-
-    /// The texts, from the first.
-    pub fn iter(&self) -> slice::Iter<'_, Text>
-        ensures rest { iter_rest result ≡ self.now }
-        ensures len { length (iter_rest result) ≡ length self.now }
-    {
-        self.items.iter()
-    }
-
-    /// Adds a text at the end. A refusal changes nothing.
-    pub fn add(&mut self, _alloc: Global, item: Text) -> Result<(), NoMemory>
-        ensures ok { OnOk result (self.new ≡ self.old ++ item ∷ []) }
-        ensures err { OnErr result (self.new ≡ self.old) }
-    {
-        self.items.push(item)?;
-        Ok(())
-    }
-
-    /// An equal list of its own.
-    pub fn copy(&self, alloc: Global) -> Result<Texts, NoMemory>
-        ensures { IfOk result (λ texts. texts ≡ self.now) }
-    {
-        Ok(Texts {
-            items: Vec::from_clones(alloc, self.items.as_slice())?,
-        })
     }
 }

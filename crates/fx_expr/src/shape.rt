@@ -5,7 +5,7 @@ use fx_base::NoMemory;
 use std::alloc::Global;
 
 /// What kind of value an expression or a description has.
-#[derive(Debug, PartialEq, Drop)]
+#[derive(Debug, Drop)]
 pub enum Shape {
     Str,
     Int,

@@ -6,8 +6,8 @@ ghost use Rattle.fx_gen.specs.Scripts.{description, generated_scripts, generated
 use crate::draws::Draws;
 use crate::files::store;
 use crate::lines::{SCRIPTS, TXNS, script_text};
-use fx_base::NoMemory;
-use fx_expr::{Text, Texts};
+use fx_base::{Listed, NoMemory};
+use fx_expr::Text;
 use fx_store::Filestore;
 use std::alloc::Global;
 
@@ -19,7 +19,7 @@ pub struct Generated {
     pub description: Text,
     pub store: Filestore,
     /// The texts of the scripts, in the order of their numbers.
-    pub scripts: Texts,
+    pub scripts: Listed<Text>,
     /// The number of transactions that count.
     pub counted: u32,
     /// The number of transactions that log.
@@ -69,17 +69,21 @@ fn description(alloc: Global) -> Result<Text, NoMemory>
 }
 
 /// The texts of the scripts. It counts the transactions that log.
-fn script_texts(alloc: Global, draws: &mut Draws, logging: &mut u32) -> Result<Texts, NoMemory>
+fn script_texts(
+    alloc: Global,
+    draws: &mut Draws,
+    logging: &mut u32,
+) -> Result<Listed<Text>, NoMemory>
     requires made { draws.old.made ≡ 257 }
     requires logging { logging.old ≡ 0 }
     ensures texts { IfOk result (λ texts. texts ≡ scripts_to draws.old.number SCRIPTS) }
     ensures few { OnOk result (logging.new ≤ SCRIPTS * TXNS) }
     ensures logging { OnOk result (logging.new ≡ logging_of draws.old.number (SCRIPTS * TXNS)) }
 {
-    let mut texts = Texts::new(alloc);
+    let mut texts = Listed::new(alloc);
     for script in 0..SCRIPTS {
         let text = script_text(alloc, draws, script, logging)?;
-        texts.add(alloc, Text::from_vec(text))?;
+        texts.push(Text::from_vec(text))?;
     }
     Ok(texts)
 }

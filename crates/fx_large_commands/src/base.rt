@@ -6,9 +6,9 @@ ghost use Rattle.fx_gen.specs.Trees.{description_tree, script_tree};
 ghost use Rattle.fx_large_commands.specs.Base.{generated_base, AreGenerated, IsPlanOf, IsReading};
 ghost use Rattle.fx_spec.specs.WellShaped.{IsScript};
 
-use fx_base::NoMemory;
+use fx_base::{Listed, NoMemory};
 use fx_command::{SourceFault, description_of, script_of};
-use fx_expr::Texts;
+use fx_expr::Text;
 use fx_gen::{Generated, generate};
 use fx_spec::{Base, Checked, Plan, Script};
 use std::alloc::Global;
@@ -52,13 +52,13 @@ fn script(alloc: Global, text: &[u8], before: u32) -> Result<Script, NoMemory>
 }
 
 /// Adds the script of a number to a plan that has those before it.
-fn add_script(alloc: Global, plan: &mut Plan, texts: &Texts, k: u32) -> Result<(), NoMemory>
+fn add_script(alloc: Global, plan: &mut Plan, texts: &Listed<Text>, k: u32) -> Result<(), NoMemory>
     requires generated { AreGenerated texts.now }
     requires small { k < 8 }
     requires before { IsReading texts.now k plan.old }
     ensures { OnOk result (IsReading texts.now (k + 1) plan.new) }
 {
-    let text = match texts.at(u64::from(k)) {
+    let text = match texts.get(k as usize) {
         Some(text) => text,
         None => unreachable!(),
     };
@@ -67,7 +67,7 @@ fn add_script(alloc: Global, plan: &mut Plan, texts: &Texts, k: u32) -> Result<(
 }
 
 /// Adds the scripts for which generated texts stand to an empty plan.
-fn add_scripts(alloc: Global, plan: &mut Plan, texts: &Texts) -> Result<(), NoMemory>
+fn add_scripts(alloc: Global, plan: &mut Plan, texts: &Listed<Text>) -> Result<(), NoMemory>
     requires generated { AreGenerated texts.now }
     requires none { plan.old ≡ [] }
     ensures { OnOk result (IsPlanOf texts.now 8 plan.new) }
@@ -79,7 +79,7 @@ fn add_scripts(alloc: Global, plan: &mut Plan, texts: &Texts) -> Result<(), NoMe
 }
 
 /// The plan for which generated texts stand.
-fn plan(alloc: Global, texts: &Texts) -> Result<Plan, NoMemory>
+fn plan(alloc: Global, texts: &Listed<Text>) -> Result<Plan, NoMemory>
     requires { AreGenerated texts.now }
     ensures { IfOk result (IsPlanOf texts.now 8) }
 {

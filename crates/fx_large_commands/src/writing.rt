@@ -66,8 +66,8 @@ fn write_texts<H: Host>(
 {
     write_text(alloc, host, folder, "spec", case.description.as_slice())?;
     'scripts: for number in 0..case.scripts.len() {
-        let name = script_name(alloc, number)?;
-        match case.scripts.at(number) {
+        let name = script_name(alloc, number as u64)?;
+        match case.scripts.get(number) {
             Some(text) => write_text(alloc, host, folder, &name, text.as_slice())?,
             None => unreachable!(),
         }

@@ -23,7 +23,7 @@ loop-script-preserved c =
       number = ap (λ (d : Drawn). d.number) said.made ∙ inv.number;
       drawn = omega (arith, ap (λ (d : Drawn). d.made) said.made, inv.drawn);
       texts =
-          c.in_ok-add.ensures.ok
+          c.in_ok-push.ensures.ok
           ∙ ap (λ l. l ++ c.from_vec.result ∷ []) inv.texts
           ∙ ap (λ t. scripts_to c.args.draws.now.number n ++ t ∷ []) (c.from_vec.ensures ∙ said.text ∙ ap (λ m. generated_script m n) inv.number)
           ∙ sym (scripts_more c.args.draws.now.number n);

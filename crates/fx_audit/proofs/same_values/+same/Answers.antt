@@ -3,18 +3,18 @@ use Rattle.fx_base.proofs.Orders.{texts_exact}
 use Rattle.fx_expr.specs.declared.value.Value.{Value}
 use Rattle.fx_expr.specs.Rows.{keys_of}
 use Rattle.fx_expr.specs.Views.{tree_of}
-use Rattle.fx_expr.proofs.Sameness.{texts_same, table_same, keys_same, values_same, item_same}
-use Rattle.fx_expr.proofs.value.+same.Goals as goal
+use Rattle.fx_audit.proofs.Sameness.{texts_same, table_same, keys_same, values_same, item_same}
+use Rattle.fx_audit.proofs.same_values.+same.Goals as goal
 
-pub Value::is_same-returns-then-eq : goal.Value::is_same-returns-then-eq
-Value::is_same-returns-then-eq t c =
+pub is_same-returns-then-eq : goal.is_same-returns-then-eq
+is_same-returns-then-eq t c =
     let es : List (List ℕ × Value) = c.in-Table.rows in
     let fs : List (List ℕ × Value) = c.in-Table-other.others in
     let keys : keys_of es ≡ keys_of fs = sym c.keys.ensures ∙ texts_exact _ _ (sym c.eq.ensures ∙ c.if-eq.true) ∙ c.keys-in-Table-other.ensures in
     (λ h. ap tree_of c.in-Table.is ∙ table_same es fs keys (ap (λ l. map tree_of l) (sym c.values.ensures) ∙ c.are_same.ensures.0 h ∙ ap (λ l. map tree_of l) c.values-then-eq.ensures) ∙ ap tree_of (sym c.in-Table-other.is), λ e. c.are_same.ensures.1 (ap (λ l. map tree_of l) c.values.ensures ∙ values_same es fs (ap tree_of (sym c.in-Table.is) ∙ e ∙ ap tree_of c.in-Table-other.is) ∙ ap (λ l. map tree_of l) (sym c.values-then-eq.ensures)))
 
-pub Value::is_same-returns-else-eq : goal.Value::is_same-returns-else-eq
-Value::is_same-returns-else-eq t c =
+pub is_same-returns-else-eq : goal.is_same-returns-else-eq
+is_same-returns-else-eq t c =
     let es : List (List ℕ × Value) = c.in-Table.rows in
     let fs : List (List ℕ × Value) = c.in-Table-other.others in
     (λ h. absurd (cc), λ e. c.eq.ensures ∙ texts_same _ _ (c.keys.ensures ∙ keys_same es fs (ap tree_of (sym c.in-Table.is) ∙ e ∙ ap tree_of c.in-Table-other.is) ∙ sym c.keys-in-Table-other.ensures))
