@@ -53,13 +53,9 @@ word_run [] h = absurd (false≢true h)
 word_run (b ∷ bytes) h = (word_start b bytes h, run_some is_word_byte b bytes (or_left _ _ h))
 
 -- the run of a word goes on behind its first byte
-pub word_more : (bytes : List ℕ) → has_word_start bytes ≡ true → prefix_len is_word_byte bytes ≡ 1 + prefix_len is_word_byte (drop 1 bytes)
-word_more [] h = absurd (false≢true h)
-word_more (b ∷ bytes) h = cond-true (is_word_byte b) (1 + prefix_len is_word_byte bytes) 0 (or_left _ _ h)
-
-pub word_some : (bytes : List ℕ) → has_word_start bytes ≡ true → 0 < length bytes
-word_some [] h = absurd (false≢true h)
-word_some (b ∷ bytes) h = omega arith
+pub word_more : (bytes : List ℕ) (n : ℕ) → has_word_start bytes ≡ true → n ≡ prefix_len is_word_byte (drop 1 bytes) → 1 + n ≡ prefix_len is_word_byte bytes
+word_more [] n h e = absurd (false≢true h)
+word_more (b ∷ bytes) n h e = ap (λ m. 1 + m) e ∙ sym (cond-true (is_word_byte b) (1 + prefix_len is_word_byte bytes) 0 (or_left _ _ h))
 
 -- a word that is not too long
 pub word_stands : (bytes : List ℕ) (n : ℕ) → has_word_start bytes ≡ true → n ≡ prefix_len is_word_byte bytes → n ≤ 64 → StandsAt (take n bytes) (drop n bytes) (token.Word (take n bytes))

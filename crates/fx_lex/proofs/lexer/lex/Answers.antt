@@ -40,14 +40,14 @@ cut-requires c =
 pub push_reserved-requires : goal.push_reserved-requires
 push_reserved-requires c = omega (arith, c.loop-at.items.ok.0, c.loop-at.invariant.few, c.loop-at.invariant.room, c.loop-at-test.true)
 
-pub push_reserved-in-Mark-requires : goal.push_reserved-in-Mark-requires
-push_reserved-in-Mark-requires c = omega (arith, c.loop-at.items.ok.0, c.loop-at.invariant.few, c.loop-at.invariant.room, c.loop-at-test.true)
+pub push_reserved-requires-in-Mark : goal.push_reserved-requires-in-Mark
+push_reserved-requires-in-Mark c = omega (arith, c.loop-at.items.ok.0, c.loop-at.invariant.few, c.loop-at.invariant.room, c.loop-at-test.true)
 
-pub push_reserved-in-Number-requires : goal.push_reserved-in-Number-requires
-push_reserved-in-Number-requires c = omega (arith, c.loop-at.items.ok.0, c.loop-at.invariant.few, c.loop-at.invariant.room, c.loop-at-test.true)
+pub push_reserved-requires-in-Number : goal.push_reserved-requires-in-Number
+push_reserved-requires-in-Number c = omega (arith, c.loop-at.items.ok.0, c.loop-at.invariant.few, c.loop-at.invariant.room, c.loop-at-test.true)
 
-pub push_reserved-in-Some-requires : goal.push_reserved-in-Some-requires
-push_reserved-in-Some-requires c = omega (arith, c.loop-at.items.ok.0, c.loop-at.invariant.few, c.loop-at.invariant.room, c.loop-at-test.true)
+pub push_reserved-requires-in-Some : goal.push_reserved-requires-in-Some
+push_reserved-requires-in-Some c = omega (arith, c.loop-at.items.ok.0, c.loop-at.invariant.few, c.loop-at.invariant.room, c.loop-at-test.true)
 
 pub loop-at-preserved-in-Word : goal.loop-at-preserved-in-Word
 loop-at-preserved-in-Word c =
