@@ -1,7 +1,7 @@
 -- When a word, a number or a mark stands at the front of bytes, and when nothing does.
 use Rattle.std.proofs.Common.{◌≡◌, ℕ, ◌+◌, ◌-◌, ◌<◌, ◌≤◌, Bool, true, inl, inr, ℤ, List, [], ◌∷◌, ◌++◌, length, take, drop, get_or, pos, refl, sym, ap, ◌∙◌, subst, arith, take-append-drop, length-drop}
 use Rattle.std.specs.List.{list_all, prefix_len, take_while}
-use Rattle.std.proofs.lemmas.Bool.{or_left, false≢true}
+use Rattle.std.proofs.lemmas.Bool.{or_left, cond-true, false≢true}
 use Rattle.std.proofs.lemmas.List.{take_at}
 use Rattle.std.proofs.lemmas.List.Folds.{length-prefix_len}
 use Rattle.fx_expr.specs.Bytes.{begins_word, is_word_byte, has_word_start, IsWord, IsWordAt}
@@ -51,6 +51,11 @@ word_start b bytes h =
 pub word_run : (bytes : List ℕ) → has_word_start bytes ≡ true → IsWordRun (take_while is_word_byte bytes) × (0 < prefix_len is_word_byte bytes)
 word_run [] h = absurd (false≢true h)
 word_run (b ∷ bytes) h = (word_start b bytes h, run_some is_word_byte b bytes (or_left _ _ h))
+
+-- the run of a word goes on behind its first byte
+pub word_more : (bytes : List ℕ) (n : ℕ) → has_word_start bytes ≡ true → n ≡ prefix_len is_word_byte (drop 1 bytes) → 1 + n ≡ prefix_len is_word_byte bytes
+word_more [] n h e = absurd (false≢true h)
+word_more (b ∷ bytes) n h e = ap (λ m. 1 + m) e ∙ sym (cond-true (is_word_byte b) (1 + prefix_len is_word_byte bytes) 0 (or_left _ _ h))
 
 -- a word that is not too long
 pub word_stands : (bytes : List ℕ) (n : ℕ) → has_word_start bytes ≡ true → n ≡ prefix_len is_word_byte bytes → n ≤ 64 → StandsAt (take n bytes) (drop n bytes) (token.Word (take n bytes))

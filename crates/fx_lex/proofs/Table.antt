@@ -1,10 +1,10 @@
 -- What the kind of a byte tells, and the table of kinds.
-use Rattle.std.proofs.Common.{◌≡◌, ℕ, ◌<◌, ◌≤◌, Bool, true, false, cond, ◌&&◌, eqb, leb, map, get_or, refl, sym, ap, ◌∙◌, arith}
+use Rattle.std.proofs.Common.{◌≡◌, ℕ, ◌<◌, ◌≤◌, Bool, true, false, not, cond, eqb, map, get_or, refl, sym, ap, ◌∙◌, arith}
 use Rattle.std.specs.List.{range_with_len}
 use Rattle.std.proofs.lemmas.Bool.{eqb-true}
 use Rattle.std.proofs.lemmas.List.FromFn.{get_or-map-range_with_len}
 use Rattle.fx_expr.specs.Bytes.{begins_word, is_word_byte}
-use Rattle.fx_lex.specs.declared.byte.TheConstants.{KINDS}
+use Rattle.fx_lex.specs.declared.byte.TheConstants.{KINDS, WORD_BYTES}
 use Rattle.fx_lex.specs.Spelling.{is_digit}
 use Rattle.fx_lex.specs.Reading.{is_blank}
 use Rattle.fx_lex.specs.Kinds.{byte_kind}
@@ -15,13 +15,18 @@ kinds_are = refl
 pub kind_at : (b : ℕ) → b < 256 → get_or KINDS b 0 ≡ byte_kind b
 kind_at b below = ap (λ l. get_or l b 0) (sym kinds_are) ∙ get_or-map-range_with_len byte_kind 0 256 b b 0 below (omega arith)
 
--- a byte of a word begins a word or a number
-word_kinds : map (λ b. leb 2 (byte_kind b) && leb (byte_kind b) 3) (range_with_len 0 256) ≡ map is_word_byte (range_with_len 0 256)
-word_kinds = refl
+-- the bytes of a word
+words_are : map (λ b. cond (is_word_byte b) 1 0) (range_with_len 0 256) ≡ WORD_BYTES
+words_are = refl
 
-pub word_kind : (b : ℕ) → b < 256 → (leb 2 (byte_kind b) && leb (byte_kind b) 3) ≡ is_word_byte b
-word_kind b below =
-    sym (get_or-map-range_with_len (λ b. leb 2 (byte_kind b) && leb (byte_kind b) 3) 0 256 b b false below (omega arith)) ∙ ap (λ l. get_or l b false) word_kinds ∙ get_or-map-range_with_len is_word_byte 0 256 b b false below (omega arith)
+pub word_byte_at : (b : ℕ) → b < 256 → not (eqb (get_or WORD_BYTES b 0) 0) ≡ is_word_byte b
+word_byte_at b below =
+    let row : get_or WORD_BYTES b 0 ≡ cond (is_word_byte b) 1 0 = ap (λ l. get_or l b 0) (sym words_are) ∙ get_or-map-range_with_len (λ b. cond (is_word_byte b) 1 0) 0 256 b b 0 below (omega arith) in
+    ap (λ n. not (eqb n 0)) row ∙ marked (is_word_byte b)
+  where
+    marked : (t : Bool) → not (eqb (cond t 1 0) 0) ≡ t
+    marked true = refl
+    marked false = refl
 
 -- the first of the tests that holds gives the kind
 abbrev Tells : ℕ → Bool → Bool → Bool → Bool → Bool → Type 0

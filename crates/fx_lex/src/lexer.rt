@@ -1,4 +1,4 @@
-ghost use Rattle.std.specs.Prelude.{◌≡◌, ℕ, ◌≤◌, ◌⊎◌, List, [], ◌∷◌, ◌++◌, length, IfOk, OnOk, IfErr, IsErrAnd};
+ghost use Rattle.std.specs.Prelude.{◌≡◌, ℕ, ◌≤◌, ◌⊎◌, List, length, IfOk, IfErr, IsErrAnd};
 ghost use Rattle.fx_base.specs.Limits.{source_limit};
 ghost use Rattle.fx_lex.specs.declared.token.Spanned.{Spanned};
 ghost use Rattle.fx_lex.specs.Reading.{AreTokensOf, IsBadAt, IsFaultOf};
@@ -8,7 +8,6 @@ use crate::list::Tokens;
 use crate::scan::{Found, found_at};
 use crate::string::string_at;
 use crate::token::{LexFault, Spanned, Token};
-use fx_base::NoMemory;
 use fx_expr::Word;
 use std::alloc::Global;
 use std::sync::ArcSlice;
@@ -31,27 +30,27 @@ pub fn lex(alloc: Global, text: &[u8]) -> Result<Tokens, LexFault>
         IsErrAnd result (λ e. (e ≡ LexFault.BadToken place) ⊎ (e ≡ LexFault.NoMemory)) }
 {
     let shared = ArcSlice::from_slice(alloc, text)?;
-    let mut items = Vec::with_capacity(alloc, text.len() / 2)?;
+    let mut items = Vec::with_capacity(alloc, text.len())?;
     let mut at = 0;
     while at < text.len() {
         match found_at(&text[at..]) {
             Found::Gap(len) => at += len,
             Found::Word(len) => {
                 let word = Word::cut(&shared, at, at + len)?;
-                push(&mut items, Token::Word(word), at, at + len)?;
+                items.push_reserved(spanned(Token::Word(word), at, at + len));
                 at += len;
             }
             Found::Number(number, len) => {
-                push(&mut items, Token::Number(number), at, at + len)?;
+                items.push_reserved(spanned(Token::Number(number), at, at + len));
                 at += len;
             }
             Found::Mark(mark, len) => {
-                push(&mut items, Token::Mark(mark), at, at + len)?;
+                items.push_reserved(spanned(Token::Mark(mark), at, at + len));
                 at += len;
             }
             Found::Quote => match string_at(alloc, &text[at..])? {
                 Some((value, len)) => {
-                    push(&mut items, Token::Str(value), at, at + len)?;
+                    items.push_reserved(spanned(Token::Str(value), at, at + len));
                     at += len;
                 }
                 None => return Err(LexFault::BadToken(at as u32)),
@@ -62,20 +61,18 @@ pub fn lex(alloc: Global, text: &[u8]) -> Result<Tokens, LexFault>
     Ok(Tokens::of(items, text.len() as u32))
 }
 
-/// Adds the token that stands in the text from `start` up to `stop`. A call would copy the token once more.
+/// The token that stands in the text from `start` up to `stop`. A call would copy the token once more.
 #[inline(always)]
-fn push(items: &mut Vec<Spanned>, token: Token, start: usize, stop: usize) -> Result<(), NoMemory>
+fn spanned(token: Token, start: usize, stop: usize) -> Spanned
     requires ordered { start ≤ stop }
     requires short { stop ≤ source_limit }
-    ensures { OnOk result (items.new.items ≡ items.old.items ++
-        record { token = token; start = start; stop = stop } ∷ []) }
+    ensures { result ≡ record { token = token; start = start; stop = stop } }
 {
-    items.push(Spanned {
+    Spanned {
         token,
         start: start as u32,
         stop: stop as u32,
-    })?;
-    Ok(())
+    }
 }
 
 /// A text has one list of tokens at most, and one first bad place at most, and never both.

@@ -28,7 +28,8 @@ fn word_at(bytes: &[u8]) -> Found
     requires { has_word_start bytes.now ≡ true }
     ensures { IsFoundAt bytes.now result }
 {
-    let len = word_len(bytes);
+    let rest = word_len(&bytes[1..]);
+    let len = 1 + rest;
     if len > WORD_LIMIT {
         return Found::Nothing;
     }

@@ -24,6 +24,7 @@ loop-at-preserved-in-Gap c =
       reads = steps_gap text at c.in-Gap.len c.loop-at.items.items c.loop-at.invariant.reads here.1 here.2;
       within = omega (arith, here.1, length-drop at text, c.loop-at.invariant.within);
       few = omega (arith, c.loop-at.invariant.few);
+      room = c.loop-at.invariant.room;
     }
 
 -- the word that was found stands in the copy of the text
@@ -35,6 +36,19 @@ cut-requires c =
     let here = subst (λ f. IsFoundAt (drop at text) f) c.in-Word.is found in
     subst (λ l. IsWordAt l at (at + c.in-Word.len)) (sym c.in_ok-shared.ensures.ok) (word_place text at c.in-Word.len c.loop-at.invariant.within here)
 
+-- there is room for as many tokens as the text has bytes
+pub push_reserved-requires : goal.push_reserved-requires
+push_reserved-requires c = omega (arith, c.loop-at.items.ok.0, c.loop-at.invariant.few, c.loop-at.invariant.room, c.loop-at-test.true)
+
+pub push_reserved-requires-in-Mark : goal.push_reserved-requires-in-Mark
+push_reserved-requires-in-Mark c = omega (arith, c.loop-at.items.ok.0, c.loop-at.invariant.few, c.loop-at.invariant.room, c.loop-at-test.true)
+
+pub push_reserved-requires-in-Number : goal.push_reserved-requires-in-Number
+push_reserved-requires-in-Number c = omega (arith, c.loop-at.items.ok.0, c.loop-at.invariant.few, c.loop-at.invariant.room, c.loop-at-test.true)
+
+pub push_reserved-requires-in-Some : goal.push_reserved-requires-in-Some
+push_reserved-requires-in-Some c = omega (arith, c.loop-at.items.ok.0, c.loop-at.invariant.few, c.loop-at.invariant.room, c.loop-at-test.true)
+
 pub loop-at-preserved-in-Word : goal.loop-at-preserved-in-Word
 loop-at-preserved-in-Word c =
     let text = c.args.text.now in
@@ -44,9 +58,9 @@ loop-at-preserved-in-Word c =
     let here = subst (λ f. IsFoundAt (drop at text) f) c.in-Word.is found in
     let size : at + len - at ≡ len = omega arith in
     let cut : c.in_ok-word-in-Word.word ≡ take len (drop at text) = c.in_ok-word-in-Word.ensures ∙ ap (λ l. slice_range l at (at + len)) c.in_ok-shared.ensures.ok ∙ ap (λ m. take m (drop at text)) size in
-    let pushed = c.in_ok-push-in-Word.ensures ∙ ap (λ w. c.loop-at.items.items ++ record { token = token.Word w; start = at; stop = at + len } ∷ []) cut in
-    let next = steps_on text at len c.loop-at.items.items (token.Word (take len (drop at text))) c.loop-at.invariant.reads c.loop-at.invariant.within c.loop-at.invariant.few here c.push.new.items.items pushed in
-    record { reads = next.0; within = next.1; few = next.2 }
+    let pushed = c.push_reserved.ensures.items ∙ ap (λ s. c.loop-at.items.items ++ s ∷ []) c.spanned.ensures ∙ ap (λ w. c.loop-at.items.items ++ record { token = token.Word w; start = at; stop = at + len } ∷ []) cut in
+    let next = steps_on text at len c.loop-at.items.items (token.Word (take len (drop at text))) c.loop-at.invariant.reads c.loop-at.invariant.within c.loop-at.invariant.few here _ pushed in
+    record { reads = next.0; within = next.1; few = next.2; room = omega (arith, c.loop-at.invariant.room, c.push_reserved.ensures.capacity) }
 
 pub loop-at-preserved-in-Mark : goal.loop-at-preserved-in-Mark
 loop-at-preserved-in-Mark c =
@@ -54,8 +68,8 @@ loop-at-preserved-in-Mark c =
     let at = c.loop-at.at in
     let found = subst (λ l. IsFoundAt l c.found_at.result) (take_rest text at) c.found_at.ensures in
     let here = subst (λ f. IsFoundAt (drop at text) f) c.in-Mark.is found in
-    let next = steps_on text at c.in-Mark.len c.loop-at.items.items (token.Mark c.in-Mark.mark) c.loop-at.invariant.reads c.loop-at.invariant.within c.loop-at.invariant.few here c.push-in-Mark.new.items.items c.in_ok-push-in-Mark.ensures in
-    record { reads = next.0; within = next.1; few = next.2 }
+    let next = steps_on text at c.in-Mark.len c.loop-at.items.items (token.Mark c.in-Mark.mark) c.loop-at.invariant.reads c.loop-at.invariant.within c.loop-at.invariant.few here _ (c.push_reserved-in-Mark.ensures.items ∙ ap (λ s. c.loop-at.items.items ++ s ∷ []) c.spanned-in-Mark.ensures) in
+    record { reads = next.0; within = next.1; few = next.2; room = omega (arith, c.loop-at.invariant.room, c.push_reserved-in-Mark.ensures.capacity) }
 
 pub loop-at-preserved-in-Number : goal.loop-at-preserved-in-Number
 loop-at-preserved-in-Number c =
@@ -66,9 +80,9 @@ loop-at-preserved-in-Number c =
     let len = c.in-Number.len in
     let number = c.in-Number.number in
     let fits : SFits w64 number = search rules in
-    let pushed = c.in_ok-push-in-Number.ensures ∙ ap (λ n. c.loop-at.items.items ++ record { token = token.Number n; start = at; stop = at + len } ∷ []) (to_z-of_z w64 number fits) in
-    let next = steps_on text at len c.loop-at.items.items (token.Number number) c.loop-at.invariant.reads c.loop-at.invariant.within c.loop-at.invariant.few here c.push-in-Number.new.items.items pushed in
-    record { reads = next.0; within = next.1; few = next.2 }
+    let pushed = c.push_reserved-in-Number.ensures.items ∙ ap (λ s. c.loop-at.items.items ++ s ∷ []) c.spanned-in-Number.ensures ∙ ap (λ n. c.loop-at.items.items ++ record { token = token.Number n; start = at; stop = at + len } ∷ []) (to_z-of_z w64 number fits) in
+    let next = steps_on text at len c.loop-at.items.items (token.Number number) c.loop-at.invariant.reads c.loop-at.invariant.within c.loop-at.invariant.few here _ pushed in
+    record { reads = next.0; within = next.1; few = next.2; room = omega (arith, c.loop-at.invariant.room, c.push_reserved-in-Number.ensures.capacity) }
 
 pub loop-at-preserved : goal.loop-at-preserved
 loop-at-preserved c =
@@ -76,8 +90,8 @@ loop-at-preserved c =
     let at = c.loop-at.at in
     let read = subst (λ l. IsStringAt l c.in_ok-value-in-Quote.field-0) (take_rest text at) c.in_ok-value-in-Quote.ensures in
     let here = subst (λ s. IsStringAt (drop at text) s) c.in-Some.is read in
-    let next = steps_on text at c.in-Some.len c.loop-at.items.items (token.Str c.in-Some.value) c.loop-at.invariant.reads c.loop-at.invariant.within c.loop-at.invariant.few here c.push-in-Some.new.items.items c.in_ok-push-in-Some.ensures in
-    record { reads = next.0; within = next.1; few = next.2 }
+    let next = steps_on text at c.in-Some.len c.loop-at.items.items (token.Str c.in-Some.value) c.loop-at.invariant.reads c.loop-at.invariant.within c.loop-at.invariant.few here _ (c.push_reserved-in-Some.ensures.items ∙ ap (λ s. c.loop-at.items.items ++ s ∷ []) c.spanned-in-Some.ensures) in
+    record { reads = next.0; within = next.1; few = next.2; room = omega (arith, c.loop-at.invariant.room, c.push_reserved-in-Some.ensures.capacity) }
 
 bad : (c : goal.After-drop-shared-in-Nothing) → IsBadAt c.args.text.now c.loop-at.at
 bad c =
