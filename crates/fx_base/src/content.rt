@@ -1,5 +1,5 @@
 //! Bytes that their copies may share: what a file holds, and what a text is.
-ghost use Rattle.std.specs.Prelude.{◌≡◌, ◌≤◌, ◌++◌, ◌∷◌, [], length, IfOk, OnOk, OnErr};
+ghost use Rattle.std.specs.Prelude.{◌≡◌, ◌≤◌, [], length, IfOk};
 ghost use Rattle.std.specs.Vec.{vec_capacity};
 ghost use Rattle.fx_base.specs.Contents.{held_bytes, HasRoom, AreBytes};
 
@@ -99,15 +99,6 @@ impl Content {
         }
     }
 
-    /// Adds a byte at the end. Bytes that are shared are copied first. A refusal changes nothing.
-    pub fn push(&mut self, alloc: Global, item: u8) -> Result<(), NoMemory>
-        ensures ok { OnOk result (self.new ≡ self.old ++ item ∷ []) }
-        ensures err { OnErr result (self.new ≡ self.old) }
-        ensures bytes { AreBytes self.new }
-    {
-        push(alloc, &mut self.held, item)
-    }
-
     /// The same bytes once more: shared, where these are shared, and else copied.
     pub fn copy(&self, alloc: Global) -> Result<Content, NoMemory>
         ensures { IfOk result (λ content. content ≡ self.now) }
@@ -165,25 +156,6 @@ fn taken_out(bytes: Arc<Vec<u8>>, spare: Vec<u8>) -> Vec<u8>
             }
         }
     }
-}
-
-fn push(alloc: Global, held: &mut Held, item: u8) -> Result<(), NoMemory>
-    requires { HasRoom held.old }
-    ensures ok { OnOk result (held_bytes held.new ≡ held_bytes held.old ++ item ∷ []) }
-    ensures err { OnErr result (held_bytes held.new ≡ held_bytes held.old) }
-    ensures room { HasRoom held.new }
-{
-    match held {
-        Held::Own(bytes) => {
-            bytes.push(item)?;
-        }
-        Held::Shared(bytes, _) => {
-            let mut own = Vec::from_slice(alloc, bytes.as_slice())?;
-            own.push(item)?;
-            *held = Held::Own(own);
-        }
-    }
-    Ok(())
 }
 
 impl Clone for Content {

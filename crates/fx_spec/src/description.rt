@@ -109,13 +109,6 @@ impl Params {
         self.items.len() as u64
     }
 
-    /// The parameter at `i`; None exactly from `len` on.
-    pub fn at(&self, i: u64) -> Option<&(Word, Shape)>
-        ensures { option_map (λ p. param_tree p.now) result ≡ slice_get self.now i }
-    {
-        self.items.get(i as usize)
-    }
-
     /// The parameters, from the first.
     pub fn iter(&self) -> slice::Iter<'_, (Word, Shape)>
         ensures rest { map param_tree (iter_rest result) ≡ self.now }

@@ -1,6 +1,5 @@
 //! Lists of bytes, with the limit of a file's content and without a limit.
-ghost use Rattle.std.specs.Prelude.{◌≡◌, ◌≤◌, ◌<◌, [], ◌∷◌, ◌++◌, length, IfOk, OnOk, OnErr, slice_get, option_copied};
-ghost use Rattle.std.specs.Slice.Iter.{iter_rest};
+ghost use Rattle.std.specs.Prelude.{◌≡◌, ◌≤◌, [], length, IfOk};
 ghost use Rattle.fx_store.specs.Names.{IsContent};
 ghost use Rattle.fx_store.specs.declared.limits.TheConstants.{MAX_FILE_BYTES};
 
@@ -8,7 +7,6 @@ use crate::limits::MAX_FILE_BYTES;
 use fx_base::{Content, NoMemory};
 use std::alloc::{AllocError, Global};
 use std::marker::Model;
-use std::slice;
 
 /// What a file holds: at most [`MAX_FILE_BYTES`] bytes. A copy of what `share` gave goes through no byte.
 #[derive(Debug)]
@@ -67,31 +65,6 @@ impl Bytes {
         ensures { result ≡ length self.now }
     {
         self.content.len() as u64
-    }
-
-    /// The byte at an index, counted from 0; `None` exactly from `len` on.
-    pub fn at(&self, i: u64) -> Option<&u8>
-        ensures { option_copied result ≡ slice_get self.now i }
-    {
-        self.as_slice().get(i as usize)
-    }
-
-    /// The bytes in their order.
-    pub fn iter(&self) -> slice::Iter<'_, u8>
-        ensures rest { iter_rest result ≡ self.now }
-        ensures len { length (iter_rest result) ≡ length self.now }
-        ensures content { IsContent self.now }
-    {
-        self.as_slice().iter()
-    }
-
-    /// Adds a byte at the end, which needs room below the limit. A refusal changes nothing.
-    pub fn add(&mut self, alloc: Global, item: u8) -> Result<(), NoMemory>
-        requires { length self.old < MAX_FILE_BYTES }
-        ensures ok { OnOk result (self.new ≡ self.old ++ item ∷ []) }
-        ensures err { OnErr result (self.new ≡ self.old) }
-    {
-        self.content.push(alloc, item)
     }
 
     /// The bytes, as a slice.
@@ -153,15 +126,6 @@ impl Model for LongText {
 }
 
 impl LongText {
-    /// No bytes.
-    pub fn new(alloc: Global) -> LongText
-        ensures { result ≡ [] }
-    {
-        LongText {
-            bytes: Vec::new(alloc),
-        }
-    }
-
     /// These bytes.
     pub fn from_vec(v: Vec<u8>) -> LongText
         ensures { result ≡ v.items }
@@ -174,30 +138,6 @@ impl LongText {
         ensures { result ≡ length self.now }
     {
         self.bytes.len() as u64
-    }
-
-    /// The byte at an index, counted from 0; `None` exactly from `len` on.
-    pub fn at(&self, i: u64) -> Option<&u8>
-        ensures { option_copied result ≡ slice_get self.now i }
-    {
-        self.bytes.get(i as usize)
-    }
-
-    /// Adds a byte at the end. A refusal changes nothing.
-    pub fn add(&mut self, _alloc: Global, item: u8) -> Result<(), NoMemory>
-        ensures ok { OnOk result (self.new ≡ self.old ++ item ∷ []) }
-        ensures err { OnErr result (self.new ≡ self.old) }
-    {
-        self.bytes.push(item)?;
-        Ok(())
-    }
-
-    /// The bytes in their order.
-    pub fn iter(&self) -> slice::Iter<'_, u8>
-        ensures rest { iter_rest result ≡ self.now }
-        ensures len { length (iter_rest result) ≡ length self.now }
-    {
-        self.bytes.iter()
     }
 
     /// The bytes, as a slice.

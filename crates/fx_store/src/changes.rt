@@ -1,13 +1,11 @@
 //! Changes of a filestore.
 ghost use Rattle.std.specs.Prelude.{◌≡◌, ◌↔◌, ◌++◌, ◌∷◌, [], length, IsTrue, IfOk, OnOk, OnErr, slice_get, option_copied};
-ghost use Rattle.std.specs.Slice.Iter.{iter_rest};
 
 use crate::node::Node;
 use crate::path::Path;
 use fx_base::NoMemory;
 use std::alloc::{AllocError, Global};
 use std::marker::Model;
-use std::slice;
 
 /// What stands at a path from now on: a node, or nothing.
 #[derive(Debug, Drop)]
@@ -102,15 +100,6 @@ impl Changes {
         ensures ascending { IsChanges self.now }
     {
         self.changes.get(i as usize)
-    }
-
-    /// The changes in ascending order of path.
-    pub fn iter(&self) -> slice::Iter<'_, Change>
-        ensures rest { iter_rest result ≡ self.now }
-        ensures len { length (iter_rest result) ≡ length self.now }
-        ensures ascending { IsChanges self.now }
-    {
-        self.changes.iter()
     }
 
     /// Whether a path is greater than that of each of these, so that a change of it may be added.

@@ -298,14 +298,4 @@ impl NameList {
         self.names.push(item)?;
         Ok(())
     }
-
-    /// An equal list of its own.
-    pub fn copy(&self, alloc: Global) -> Result<NameList, NoMemory>
-        ensures copied { IfOk result (λ s. s ≡ self.now) }
-        ensures names { All IsName self.now }
-    {
-        Ok(NameList {
-            names: Vec::from_clones(alloc, &self.names)?,
-        })
-    }
 }

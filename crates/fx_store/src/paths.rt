@@ -1,5 +1,5 @@
 //! Sets of paths.
-ghost use Rattle.std.specs.Prelude.{◌≡◌, ◌↔◌, ◌++◌, ◌∷◌, [], length, IsTrue, IfOk, OnOk, OnErr, slice_get, option_copied};
+ghost use Rattle.std.specs.Prelude.{◌≡◌, ◌↔◌, ◌++◌, ◌∷◌, [], length, IsTrue, OnOk, OnErr};
 ghost use Rattle.std.specs.List.Sorted.{IsStrictlySortedBy};
 ghost use Rattle.std.specs.Slice.Iter.{iter_rest};
 ghost use Rattle.fx_store.specs.Names.{IsPathSet, has_path, path_cmp};
@@ -54,14 +54,6 @@ impl Paths {
         self.paths.len() as u64
     }
 
-    /// The path at an index, counted from 0 in ascending order.
-    pub fn at(&self, i: u64) -> Option<&Path>
-        ensures path { option_copied result ≡ slice_get self.now i }
-        ensures set { IsPathSet self.now }
-    {
-        self.paths.get(i as usize)
-    }
-
     /// The paths in ascending order.
     pub fn iter(&self) -> slice::Iter<'_, Path>
         ensures rest { iter_rest result ≡ self.now }
@@ -95,15 +87,5 @@ impl Paths {
         prove!(item.len() as usize <= MAX_PATH_NAMES);
         self.paths.push(item)?;
         Ok(())
-    }
-
-    /// An equal set of its own.
-    pub fn copy(&self, alloc: Global) -> Result<Paths, NoMemory>
-        ensures copied { IfOk result (λ s. s ≡ self.now) }
-        ensures set { IsPathSet self.now }
-    {
-        Ok(Paths {
-            paths: Vec::from_clones(alloc, &self.paths)?,
-        })
     }
 }

@@ -1,9 +1,7 @@
-ghost use Rattle.std.specs.Prelude.{◌≡◌, ◌++◌, [], ◌∷◌, Some, IfOk, OnOk, OnErr, length, slice_get, nat_eq, refl};
-ghost use Rattle.std.specs.Option.{option_copied};
+ghost use Rattle.std.specs.Prelude.{◌≡◌, ◌++◌, [], Some, IfOk, length, nat_eq, refl};
 ghost use Rattle.std.specs.Ordering.{nat_cmp};
 ghost use Rattle.std.specs.Cmp.{partial_equiv_from_equiv};
 ghost use Rattle.std.specs.Cmp.Lexicographic.{pointwise, slice_cmp, nat_list_eq_equiv, nat_list_cmp_total, texts_ties, texts_po};
-ghost use Rattle.std.specs.Slice.Iter.{iter_rest};
 ghost use Rattle.std.specs.Arc.{arc_slice_items};
 ghost use Rattle.fx_text.specs.Bytes.{IsText};
 ghost use Rattle.fx_text.specs.Letters.{held_bytes};
@@ -12,7 +10,6 @@ use fx_base::NoMemory;
 use std::alloc::{AllocError, Global};
 use std::cmp::Ordering;
 use std::marker::Model;
-use std::slice;
 use std::sync::ArcSlice;
 
 /// The most bytes that a text may have.
@@ -125,31 +122,6 @@ impl Text {
     {
         self.as_slice().len() as u64
     }
-
-    /// The byte at `i`; None exactly from `len` on.
-    pub fn at(&self, i: u64) -> Option<&u8>
-        ensures { option_copied result ≡ slice_get self.now i }
-    {
-        self.as_slice().get(i as usize)
-    }
-
-    /// The bytes in their order.
-    pub fn iter(&self) -> slice::Iter<'_, u8>
-        ensures rest { iter_rest result ≡ self.now }
-        ensures len { length (iter_rest result) ≡ length self.now }
-        ensures limit { IsText self.now }
-    {
-        self.as_slice().iter()
-    }
-
-    /// Adds a byte at the end; the caller keeps the limit. A refusal changes nothing.
-    pub fn add(&mut self, alloc: Global, item: u8) -> Result<(), NoMemory>
-        requires { IsText (self.old ++ item ∷ []) }
-        ensures ok { OnOk result (self.new ≡ self.old ++ item ∷ []) }
-        ensures err { OnErr result (self.new ≡ self.old) }
-    {
-        push(alloc, &mut self.held, item)
-    }
 }
 
 fn copied(alloc: Global, held: &Held) -> Result<Held, NoMemory>
@@ -159,23 +131,6 @@ fn copied(alloc: Global, held: &Held) -> Result<Held, NoMemory>
         Held::Own(bytes) => Ok(Held::Own(Vec::from_slice(alloc, bytes.as_slice())?)),
         Held::Shared(bytes) => Ok(Held::Shared(bytes.clone()?)),
     }
-}
-
-fn push(alloc: Global, held: &mut Held, item: u8) -> Result<(), NoMemory>
-    ensures ok { OnOk result (held_bytes held.new ≡ held_bytes held.old ++ item ∷ []) }
-    ensures err { OnErr result (held_bytes held.new ≡ held_bytes held.old) }
-{
-    match held {
-        Held::Own(bytes) => {
-            bytes.push(item)?;
-        }
-        Held::Shared(bytes) => {
-            let mut own = Vec::from_slice(alloc, bytes.as_slice())?;
-            own.push(item)?;
-            *held = Held::Own(own);
-        }
-    }
-    Ok(())
 }
 
 impl Clone for Text {

@@ -48,8 +48,7 @@ fn link(alloc: Global, text: &[u8]) -> Result<Node, NoMemory> {
 }
 
 fn file(alloc: Global, byte: u8) -> Result<Node, NoMemory> {
-    let mut bytes = Bytes::new(alloc);
-    bytes.add(alloc, byte)?;
+    let bytes = Bytes::from_vec(Vec::from_slice(alloc, &[byte])?);
     Ok(Node::File { bytes, exec: false })
 }
 

@@ -3,8 +3,7 @@ use fx_expr::{Env, Keyed, Shape, Text, TextSet, Value, Word};
 use std::alloc::Global;
 
 fn copied_text(alloc: Global) -> Result<u64, NoMemory> {
-    let mut letters = Text::new(alloc);
-    letters.add(alloc, b'a')?;
+    let letters = Text::from_vec(Vec::from_slice(alloc, b"a")?);
     let copy = letters.copy(alloc)?;
     Ok(copy.len())
 }
