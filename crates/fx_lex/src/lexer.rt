@@ -45,7 +45,11 @@ pub fn lex(alloc: Global, text: &[u8]) -> Result<Tokens, LexFault>
                 at += len;
             }
             Found::Mark(mark, len) => {
-                items.push_reserved(spanned(Token::Mark(mark), at, at + len));
+                items.push_reserved(Spanned {
+                    token: Token::Mark(mark),
+                    start: at as u32,
+                    stop: (at + len) as u32,
+                });
                 at += len;
             }
             Found::Quote => match string_at(alloc, &text[at..])? {
