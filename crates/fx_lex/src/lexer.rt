@@ -1,13 +1,14 @@
 ghost use Rattle.std.specs.Prelude.{◌≡◌, ℕ, ◌≤◌, ◌⊎◌, List, length, IfOk, IfErr, IsErrAnd};
 ghost use Rattle.fx_base.specs.Limits.{source_limit};
 ghost use Rattle.fx_lex.specs.declared.token.Spanned.{Spanned};
+ghost use Rattle.fx_lex.specs.declared.token.Token.TheVariants as token;
 ghost use Rattle.fx_lex.specs.Reading.{AreTokensOf, IsBadAt, IsFaultOf};
 ghost use Rattle.fx_lex.specs.Laws.{TokensAreUnique, BadPlaceIsUnique, TokensExcludeBadPlace};
 
 use crate::list::Tokens;
 use crate::scan::{Found, found_at};
 use crate::string::string_at;
-use crate::token::{LexFault, Spanned, Token};
+use crate::token::{LexFault, Mark, Spanned, Token};
 use fx_expr::Word;
 use std::alloc::Global;
 use std::sync::ArcSlice;
@@ -45,7 +46,7 @@ pub fn lex(alloc: Global, text: &[u8]) -> Result<Tokens, LexFault>
                 at += len;
             }
             Found::Mark(mark, len) => {
-                items.push_reserved(spanned(Token::Mark(mark), at, at + len));
+                items.push_reserved(marked(mark, at, at + len));
                 at += len;
             }
             Found::Quote => match string_at(alloc, &text[at..])? {
@@ -70,6 +71,20 @@ fn spanned(token: Token, start: usize, stop: usize) -> Spanned
 {
     Spanned {
         token,
+        start: start as u32,
+        stop: stop as u32,
+    }
+}
+
+/// The mark that stands in the text from `start` up to `stop`.
+#[inline]
+fn marked(mark: Mark, start: usize, stop: usize) -> Spanned
+    requires ordered { start ≤ stop }
+    requires short { stop ≤ source_limit }
+    ensures { result ≡ record { token = token.Mark mark; start = start; stop = stop } }
+{
+    Spanned {
+        token: Token::Mark(mark),
         start: start as u32,
         stop: stop as u32,
     }

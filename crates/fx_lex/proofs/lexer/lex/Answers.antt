@@ -1,4 +1,4 @@
-use Rattle.std.proofs.Common.{rules, ◌≡◌, ◌+◌, ◌-◌, [], ◌∷◌, ◌++◌, length, take, drop, sym, ap, ◌∙◌, subst, inl, arith, length-drop}
+use Rattle.std.proofs.Common.{rules, ◌≡◌, ◌+◌, ◌-◌, [], ◌∷◌, ◌++◌, take, drop, sym, ap, ◌∙◌, subst, inl, arith, length-drop}
 use Rattle.std.proofs.lemmas.Int.{to_z-of_z}
 use Rattle.std.proofs.lemmas.List.{take_rest}
 use Rattle.std.specs.Prelude.{slice_range}
@@ -68,7 +68,7 @@ loop-at-preserved-in-Mark c =
     let at = c.loop-at.at in
     let found = subst (λ l. IsFoundAt l c.found_at.result) (take_rest text at) c.found_at.ensures in
     let here = subst (λ f. IsFoundAt (drop at text) f) c.in-Mark.is found in
-    let next = steps_on text at c.in-Mark.len c.loop-at.items.items (token.Mark c.in-Mark.mark) c.loop-at.invariant.reads c.loop-at.invariant.within c.loop-at.invariant.few here _ (c.push_reserved-in-Mark.ensures.items ∙ ap (λ s. c.loop-at.items.items ++ s ∷ []) c.spanned-in-Mark.ensures) in
+    let next = steps_on text at c.in-Mark.len c.loop-at.items.items (token.Mark c.in-Mark.mark) c.loop-at.invariant.reads c.loop-at.invariant.within c.loop-at.invariant.few here _ (c.push_reserved-in-Mark.ensures.items ∙ ap (λ s. c.loop-at.items.items ++ s ∷ []) c.marked.ensures) in
     record { reads = next.0; within = next.1; few = next.2; room = omega (arith, c.loop-at.invariant.room, c.push_reserved-in-Mark.ensures.capacity) }
 
 pub loop-at-preserved-in-Number : goal.loop-at-preserved-in-Number
