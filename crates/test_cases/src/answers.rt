@@ -4,7 +4,9 @@ use crate::door::Door;
 use fx_base::NoMemory;
 use fx_outside::HostKind;
 use std::alloc::Global;
-use test_runs::{tell_attempt, tell_steps, tell_threads, tell_views, tell_watch};
+use test_runs::{
+    tell_attempt, tell_outcomes, tell_steps, tell_threads, tell_views, tell_watch,
+};
 use test_stage::{
     Call, Case, Program, Stage, number, split_word, tell, tell_call, tell_changes, tell_disk,
     tell_faults, tell_message, tell_rooms, tell_schedules, tell_stops, tell_top, tell_tree,
@@ -36,6 +38,8 @@ enum Trial {
     Schedules,
     Stops,
     Threads,
+    Retried,
+    Outcomes,
     Views,
     Tree,
     Disk,
@@ -49,6 +53,7 @@ enum Verb {
     Note,
     Set(Setting),
     Hold,
+    Delay,
     Try(Trial),
     Call(Call),
     Message,
@@ -69,6 +74,7 @@ const VERBS: &[(&str, Verb)] = &[
     ("room", Verb::Set(Setting::Room)),
     ("tell", Verb::Set(Setting::Tell)),
     ("hold", Verb::Hold),
+    ("delay", Verb::Delay),
     ("top", Verb::Try(Trial::Top)),
     ("faults", Verb::Try(Trial::Faults)),
     ("changes", Verb::Try(Trial::Changes)),
@@ -76,6 +82,8 @@ const VERBS: &[(&str, Verb)] = &[
     ("schedules", Verb::Try(Trial::Schedules)),
     ("stops", Verb::Try(Trial::Stops)),
     ("threads", Verb::Try(Trial::Threads)),
+    ("retried", Verb::Try(Trial::Retried)),
+    ("outcomes", Verb::Try(Trial::Outcomes)),
     ("views", Verb::Try(Trial::Views)),
     ("tree", Verb::Try(Trial::Tree)),
     ("disk", Verb::Try(Trial::Disk)),
@@ -157,7 +165,9 @@ fn try_out<P: Program>(
         Trial::Rooms => tell_rooms(program, alloc, stage, rest, out),
         Trial::Schedules => tell_schedules(program, alloc, stage, out),
         Trial::Stops => tell_stops(program, alloc, stage, rest, out),
-        Trial::Threads => tell_threads(program, alloc, stage, rest, out),
+        Trial::Threads => tell_threads(program, alloc, stage, false, rest, out),
+        Trial::Retried => tell_threads(program, alloc, stage, true, rest, out),
+        Trial::Outcomes => tell_outcomes(program, alloc, stage, rest, out),
         Trial::Views => tell_views(program, alloc, stage, rest, out),
         Trial::Tree => tell_tree(alloc, &mut stage.host, rest, out),
         Trial::Disk => tell_disk_of(alloc, stage, out),
@@ -196,6 +206,10 @@ impl<P: Program> Case for Tried<'_, P> {
             Some(Verb::Set(setting)) => set_up(alloc, self.stage, setting, rest, out),
             Some(Verb::Hold) => {
                 self.door.hold(rest);
+                Ok(())
+            }
+            Some(Verb::Delay) => {
+                self.door.delay();
                 Ok(())
             }
             Some(Verb::Try(trial)) => {

@@ -55,6 +55,7 @@ impl<R: Threads + Wait + Sync> Program for Top<'_, R> {
         sink: &mut MemorySink,
         disk: &mut MemoryDisk,
     ) -> Status {
+        self.door.begin();
         top(&self.handles, alloc, words, host, sink, self.door, disk)
     }
 

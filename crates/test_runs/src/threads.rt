@@ -11,19 +11,46 @@ use fx_report::report;
 use fx_spec::Base;
 use fx_store::Filestore;
 use std::alloc::Global;
+use std::collections::BTreeSet;
 use std::sync::Arc;
 use test_stage::{
-    OUT, Program, Stage, host_text, number, run_quietly, split_word, tell, tell_bytes, tell_tree,
-    words_of,
+    OUT, Program, Stage, host_text, number, run_quietly, split_word, tell, tell_bytes, tell_each,
+    tell_tree, tell_without, words_of,
 };
 
-/// Adds the lines of a report, without those of its retries.
-fn add_entries(left: &mut String, report: &[u8]) -> Result<(), NoMemory> {
-    if let Ok(report) = std::str::from_utf8(report) {
-        left.push_str(entry_lines(report))?;
-        left.push_str("\n")?;
+/// What stands between what a run prints and what is told of its folder.
+const BETWEEN: &str = "\n--\n";
+
+/// The fronts of the lines of a report that depend on the order.
+const OF_ORDER: [&str; 4] = ["entry ", "print ", "retries ", "retry "];
+
+/// Adds what a run prints.
+fn add_printed(left: &mut String, printed: &[u8]) -> Result<(), NoMemory> {
+    if let Ok(printed) = std::str::from_utf8(printed) {
+        left.push_str(printed)?;
     }
+    left.push_str(BETWEEN)?;
     Ok(())
+}
+
+/// What a run printed, and what is told of its folder.
+pub(crate) fn parts_of(left: &str) -> (&str, &str) {
+    match left.split_once(BETWEEN) {
+        Some(parts) => parts,
+        None => (left, ""),
+    }
+}
+
+/// Whether two runs leave the same but for their retries.
+fn are_same(one: &str, other: &str) -> bool {
+    let (printed, tree) = parts_of(one);
+    let (wanted, wanted_tree) = parts_of(other);
+    entry_lines(printed) == entry_lines(wanted) && tree == wanted_tree
+}
+
+/// Whether a run prints that it has retries.
+fn has_retries(left: &str) -> bool {
+    left.split_once("\nretries 0\n").is_none()
 }
 
 /// Saves a filestore at a path of a host.
@@ -58,7 +85,7 @@ fn tell_folder(alloc: Global, store: &Filestore, out: &mut String) -> Result<(),
 
 fn add_report(alloc: Global, board: &Board, left: &mut String) -> Result<(), NoMemory> {
     let printed = report(alloc, board, &Retries::new(alloc))?;
-    add_entries(left, printed.as_slice())
+    add_printed(left, printed.as_slice())
 }
 
 /// Adds what a log leaves.
@@ -85,7 +112,7 @@ fn is_replayed(alloc: Global, base: &Arc<Base>, left: &str) -> Result<bool, NoMe
     let shells = shells_of(alloc, left)?;
     let mut again = String::new(alloc);
     add_replayed(alloc, base, &shells, &mut again)?;
-    Ok(again.as_str() == left)
+    Ok(are_same(again.as_str(), left))
 }
 
 fn is_as_printed<P: Program>(
@@ -105,7 +132,7 @@ fn is_as_printed<P: Program>(
     }
 }
 
-/// Runs a command, and adds the lines of its report before those of its retries, and its folder.
+/// Runs a command, and adds what it prints, and what is told of its folder.
 fn add_left<P: Program>(
     program: &P,
     alloc: Global,
@@ -115,61 +142,111 @@ fn add_left<P: Program>(
     left: &mut String,
 ) -> Result<(), NoMemory> {
     run_quietly(program, alloc, words, host, &mut sink)?;
-    add_entries(left, sink.written())?;
+    add_printed(left, sink.written())?;
     tell_tree(alloc, host, OUT, left)
 }
 
-fn run_words(alloc: Global, scripts: &str) -> Result<Words, NoMemory> {
-    let line = format!(in alloc; "run spec in {OUT} {scripts}")?;
+/// The words of a command that runs scripts.
+fn run_words(alloc: Global, command: &str, rest: &str) -> Result<Words, NoMemory> {
+    let line = format!(in alloc; "{command} spec in {OUT} {rest}")?;
     words_of(alloc, line.as_str())
 }
 
-/// Adds what a run of the scripts leaves, on a fresh stage.
-fn add_run<P: Program>(
+/// Runs a command on a fresh stage, and adds what it prints, and what is told of its folder.
+pub(crate) fn add_run<P: Program>(
     program: &P,
     alloc: Global,
     stage: &Stage,
-    scripts: &str,
+    command: &str,
+    rest: &str,
     left: &mut String,
 ) -> Result<(), NoMemory> {
-    let words = run_words(alloc, scripts)?;
+    let words = run_words(alloc, command, rest)?;
     let mut host = stage.fresh_host(alloc)?;
     let sink = stage.fresh_sink(alloc)?;
     add_left(program, alloc, &words, &mut host, sink, left)
 }
 
-/// Runs the scripts once, and tells what is left where that is not as the printed order says.
+/// Runs the scripts once, and tells what is left where that is not as the printed order says, or where a retry lacks that is
+/// wanted.
 fn is_right<P: Program>(
     program: &P,
     alloc: Global,
     stage: &mut Stage,
+    retried: bool,
     scripts: &str,
     out: &mut String,
 ) -> Result<bool, NoMemory> {
     let mut left = String::new(alloc);
-    add_run(program, alloc, stage, scripts, &mut left)?;
-    let right = is_as_printed(program, alloc, stage, scripts, left.as_str())?;
+    add_run(program, alloc, stage, "run", scripts, &mut left)?;
+    let as_printed = is_as_printed(program, alloc, stage, scripts, left.as_str())?;
+    let right = as_printed && (!retried || has_retries(left.as_str()));
     if !right {
         tell_bytes(out, left.as_str().as_bytes())?;
     }
     Ok(right)
 }
 
+fn told_right(retried: bool) -> &'static str {
+    if retried {
+        "each as its order says, and each with a retry"
+    } else {
+        "each as its order says"
+    }
+}
+
 /// Runs the scripts on threads so many times, each time on a fresh stage, and tells whether each run leaves what its
-/// transactions leave that are run whole in the order that it prints: a line is a count and the scripts. The description is
-/// at `spec`, the folder at `in`.
+/// transactions leave that are run whole in the order that it prints, and whether each has retries where they are wanted: a
+/// line is a count and the scripts. The description is at `spec`, the folder at `in`.
 pub fn tell_threads<P: Program>(
     program: &P,
     alloc: Global,
     stage: &mut Stage,
+    retried: bool,
     line: &str,
     out: &mut String,
 ) -> Result<(), NoMemory> {
     let (count, scripts) = split_word(line);
     for _ in 0..number(count) {
-        if !is_right(program, alloc, stage, scripts, out)? {
+        if !is_right(program, alloc, stage, retried, scripts, out)? {
             return Ok(());
         }
     }
-    tell(out, "each as its order says")
+    tell(out, told_right(retried))
+}
+
+/// Runs the scripts once, and adds the lines of the report that do not depend on the order, and what is told of the folder.
+fn add_outcome<P: Program>(
+    program: &P,
+    alloc: Global,
+    stage: &Stage,
+    scripts: &str,
+    outcomes: &mut BTreeSet<String>,
+) -> Result<(), NoMemory> {
+    let mut left = String::new(alloc);
+    add_run(program, alloc, stage, "run", scripts, &mut left)?;
+    let (printed, tree) = parts_of(left.as_str());
+    let mut outcome = String::new(alloc);
+    tell_without(&mut outcome, printed, &OF_ORDER)?;
+    outcome.push_str(tree)?;
+    outcomes.insert(outcome)?;
+    Ok(())
+}
+
+/// Runs the scripts on threads so many times, each time on a fresh stage, and tells what the runs leave, each once, in order,
+/// without the lines that depend on the order: a line is a count and the scripts. The description is at `spec`, the folder at
+/// `in`.
+pub fn tell_outcomes<P: Program>(
+    program: &P,
+    alloc: Global,
+    stage: &Stage,
+    line: &str,
+    out: &mut String,
+) -> Result<(), NoMemory> {
+    let (count, scripts) = split_word(line);
+    let mut outcomes = BTreeSet::new(alloc);
+    for _ in 0..number(count) {
+        add_outcome(program, alloc, stage, scripts, &mut outcomes)?;
+    }
+    tell_each(&outcomes, out)
 }

@@ -3,9 +3,9 @@
 
 use crate::replay::replayed;
 use crate::shells::{entry_lines, shells_of};
+use crate::threads::{add_run, parts_of};
 use fx_base::NoMemory;
 use fx_board::answer_of;
-use fx_outside::{MemoryHost, MemorySink, Words};
 use fx_report::{View, Viewed, views_text};
 use fx_run::run;
 use fx_spec::Base;
@@ -13,9 +13,7 @@ use fx_store::Filestore;
 use fx_view::{Stop, Whole};
 use std::alloc::Global;
 use std::sync::Arc;
-use test_stage::{
-    OUT, Program, Stage, number, run_quietly, split_word, tell, tell_bytes, words_of,
-};
+use test_stage::{Program, Stage, number, split_word, tell, tell_bytes};
 
 /// The lines behind a report.
 fn behind_report(printed: &str) -> &str {
@@ -132,10 +130,10 @@ fn is_as_told<P: Program>(
     program: &P,
     alloc: Global,
     stage: &mut Stage,
-    views: &str,
-    scripts: &str,
+    rest: &str,
     printed: &str,
 ) -> Result<bool, NoMemory> {
+    let (views, scripts) = split_word(rest);
     let base = match program.base(alloc, stage, scripts) {
         Ok(base) => base,
         Err(_) => return Ok(false),
@@ -152,56 +150,20 @@ fn is_as_told<P: Program>(
     as_told
 }
 
-/// Runs a command, and adds what it prints.
-fn add_printed<P: Program>(
-    program: &P,
-    alloc: Global,
-    words: &Words,
-    host: &mut MemoryHost,
-    mut sink: MemorySink,
-    printed: &mut String,
-) -> Result<(), NoMemory> {
-    run_quietly(program, alloc, words, host, &mut sink)?;
-    if let Ok(text) = std::str::from_utf8(sink.written()) {
-        printed.push_str(text)?;
-    }
-    Ok(())
-}
-
-fn views_words(alloc: Global, views: &str, scripts: &str) -> Result<Words, NoMemory> {
-    let line = format!(in alloc; "views spec in {OUT} {views} {scripts}")?;
-    words_of(alloc, line.as_str())
-}
-
-/// Adds what a run of the scripts with the views prints, on a fresh stage.
-fn add_run<P: Program>(
-    program: &P,
-    alloc: Global,
-    stage: &Stage,
-    views: &str,
-    scripts: &str,
-    printed: &mut String,
-) -> Result<(), NoMemory> {
-    let words = views_words(alloc, views, scripts)?;
-    let mut host = stage.fresh_host(alloc)?;
-    let sink = stage.fresh_sink(alloc)?;
-    add_printed(program, alloc, &words, &mut host, sink, printed)
-}
-
 /// Runs the scripts with the views once, and tells what is printed where a view is not as it tells.
 fn is_right<P: Program>(
     program: &P,
     alloc: Global,
     stage: &mut Stage,
-    views: &str,
-    scripts: &str,
+    rest: &str,
     out: &mut String,
 ) -> Result<bool, NoMemory> {
-    let mut printed = String::new(alloc);
-    add_run(program, alloc, stage, views, scripts, &mut printed)?;
-    let right = is_as_told(program, alloc, stage, views, scripts, printed.as_str())?;
+    let mut left = String::new(alloc);
+    add_run(program, alloc, stage, "views", rest, &mut left)?;
+    let (printed, _) = parts_of(left.as_str());
+    let right = is_as_told(program, alloc, stage, rest, printed)?;
     if !right {
-        tell_bytes(out, printed.as_str().as_bytes())?;
+        tell_bytes(out, left.as_str().as_bytes())?;
     }
     Ok(right)
 }
@@ -217,9 +179,8 @@ pub fn tell_views<P: Program>(
     out: &mut String,
 ) -> Result<(), NoMemory> {
     let (count, rest) = split_word(line);
-    let (views, scripts) = split_word(rest);
     for _ in 0..number(count) {
-        if !is_right(program, alloc, stage, views, scripts, out)? {
+        if !is_right(program, alloc, stage, rest, out)? {
             return Ok(());
         }
     }

@@ -30,7 +30,7 @@ pub use messages::tell_message;
 pub use pieces::{integer, number, split_word};
 pub use program::{OUT, Program, run_quietly};
 pub use runs::tell_top;
-pub use schedules::tell_schedules;
+pub use schedules::{tell_each, tell_schedules, tell_without};
 pub use series::{tell_changes, tell_faults, tell_rooms};
 pub use stage::{Stage, host_text};
 pub use stops::tell_stops;
