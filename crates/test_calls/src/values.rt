@@ -11,7 +11,7 @@ use fx_report::value_line;
 use fx_session::evaluated;
 use std::alloc::Global;
 use std::fmt::Write;
-use test_stage::{tell_bytes, unescaped};
+use test_lines::{tell_bytes, unescaped};
 
 /// An operator on a text.
 #[derive(Clone, Copy)]

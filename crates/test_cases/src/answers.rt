@@ -1,15 +1,19 @@
 //! The lines of cases, and what each gives.
 
 use crate::door::Door;
+use crate::steps::{tell_attempt, tell_steps};
+use crate::threads::{tell_outcomes, tell_threads};
+use crate::views::tell_views;
+use crate::watches::tell_watch;
 use fx_base::NoMemory;
 use fx_outside::HostKind;
 use std::alloc::Global;
-use test_runs::{
-    tell_attempt, tell_outcomes, tell_steps, tell_threads, tell_views, tell_watch,
+use test_lines::{
+    Call, Case, number, split_word, tell, tell_call, tell_tree, tell_writes,
 };
 use test_stage::{
-    Call, Case, Program, Stage, number, split_word, tell, tell_call, tell_changes, tell_disk,
-    tell_faults, tell_message, tell_rooms, tell_schedules, tell_stops, tell_top, tell_tree,
+    Program, Stage, tell_changes, tell_disk, tell_faults, tell_message, tell_rooms,
+    tell_schedules, tell_stops, tell_top,
 };
 
 /// What a line sets up.
@@ -46,6 +50,7 @@ enum Trial {
     Attempt,
     Steps,
     Watch,
+    Writes,
 }
 
 #[derive(Clone, Copy)]
@@ -95,7 +100,7 @@ const VERBS: &[(&str, Verb)] = &[
     ("read", Verb::Call(Call::Read)),
     ("make-dir", Verb::Call(Call::MakeDir)),
     ("write-new", Verb::Call(Call::WriteNew)),
-    ("writes", Verb::Call(Call::Writes)),
+    ("writes", Verb::Try(Trial::Writes)),
     ("message", Verb::Message),
 ];
 
@@ -174,6 +179,7 @@ fn try_out<P: Program>(
         Trial::Attempt => tell_attempt(program, alloc, stage, rest, out),
         Trial::Steps => tell_steps(program, alloc, stage, rest, out),
         Trial::Watch => tell_watch(program, alloc, stage, rest, out),
+        Trial::Writes => tell_writes(&mut stage.fresh_sink(alloc)?, rest, out),
     }
 }
 
@@ -216,7 +222,7 @@ impl<P: Program> Case for Tried<'_, P> {
                 try_out(self.program, alloc, self.stage, trial, rest, out)?;
                 tell_missed(self.door, out)
             }
-            Some(Verb::Call(call)) => tell_call(alloc, self.stage, call, rest, out),
+            Some(Verb::Call(call)) => tell_call(alloc, &mut self.stage.host, call, rest, out),
             Some(Verb::Message) => tell_message(alloc, rest, out),
         }
     }

@@ -4,7 +4,7 @@ use fx_outside::{Gate, Moment};
 use std::sync::Wait;
 use std::sync::atomic::{AtomicU64, Ordering};
 use std::thread;
-use test_stage::{number, split_word};
+use test_lines::{number, split_word};
 
 /// How often a thread that is held yields before it goes on all the same.
 const YIELDS: u64 = 20_000_000;

@@ -13,7 +13,8 @@ use std::alloc::Global;
 use std::marker::PhantomData;
 use std::sync::{Arc, Wait};
 use std::thread::Threads;
-use test_stage::{Program, Stage, words_of};
+use test_lines::words_of;
+use test_stage::{Program, Stage};
 
 /// The threads and the waiting of a runtime.
 #[derive(Drop)]

@@ -1,6 +1,9 @@
+//! Values, where memory is ample.
+
 use fx_base::NoMemory;
 use fx_expr::{Env, Expr, Keyed, Rows, Shape, Text, TextSet, Texts, Value, Values, Word};
 use std::alloc::Global;
+use std::fmt::Write;
 
 fn copied_text(alloc: Global) -> Result<u64, NoMemory> {
     let mut letters = Text::new(alloc);
@@ -51,17 +54,6 @@ fn copied_expression(alloc: Global) -> Result<i64, NoMemory> {
     }
 }
 
-#[test]
-fn copies_are_made_with_ample_memory(rt: HostRuntime) {
-    let alloc = rt.alloc();
-    assert_eq!(rt; copied_text(alloc), Ok(1));
-    assert_eq!(rt; copied_values(alloc), Ok(1));
-    assert_eq!(rt; copied_texts(alloc), Ok(1));
-    assert_eq!(rt; copied_names(alloc), Ok(1));
-    assert_eq!(rt; copied_shape(alloc), Ok(true));
-    assert_eq!(rt; copied_expression(alloc), Ok(9));
-}
-
 fn bind(alloc: Global, env: &mut Env, word: &Word, n: i64) -> Result<(), NoMemory> {
     let word = word.copy(alloc)?;
     env.add(alloc, (word, Value::Int(n)))?;
@@ -87,7 +79,14 @@ fn newest_value(alloc: Global) -> Result<i64, NoMemory> {
     }
 }
 
-#[test]
-fn the_newest_binding_counts(rt: HostRuntime) {
-    assert_eq!(rt; newest_value(rt.alloc()), Ok(2));
+/// Tells what copies of values, shapes and expressions are made of, and what a name is bound to that is bound twice.
+pub fn tell_values(alloc: Global, out: &mut String) -> Result<(), NoMemory> {
+    writeln!(out, "> text {:?}", copied_text(alloc)?)?;
+    writeln!(out, "> values {:?}", copied_values(alloc)?)?;
+    writeln!(out, "> texts {:?}", copied_texts(alloc)?)?;
+    writeln!(out, "> names {:?}", copied_names(alloc)?)?;
+    writeln!(out, "> shape {:?}", copied_shape(alloc)?)?;
+    writeln!(out, "> expression {:?}", copied_expression(alloc)?)?;
+    writeln!(out, "> newest {:?}", newest_value(alloc)?)?;
+    Ok(())
 }

@@ -5,7 +5,7 @@ use fx_disk::Disk;
 use fx_outside::{Host, HostFault, HostText, Listing};
 use std::alloc::Global;
 use std::fmt::Write;
-use test_stage::{tell, tell_bytes};
+use test_lines::{tell, tell_bytes};
 
 /// A call on the host.
 #[derive(Clone, Copy)]

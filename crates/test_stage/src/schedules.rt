@@ -1,14 +1,12 @@
 //! Traces of two scripts by all schedules of six steps.
 
-use crate::bytes::tell;
 use crate::program::{OUT, Program, tell_end};
 use crate::stage::Stage;
-use crate::telling::tell_tree;
-use crate::words::words_of;
 use fx_base::NoMemory;
 use fx_outside::{MemoryHost, MemorySink, Words};
 use std::alloc::Global;
 use std::collections::BTreeSet;
+use test_lines::{tell, tell_tree, words_of};
 
 /// The number of schedules of six steps of two shells.
 const SCHEDULES: u32 = 64;

@@ -13,10 +13,10 @@ use fx_store::Filestore;
 use std::alloc::Global;
 use std::collections::BTreeSet;
 use std::sync::Arc;
-use test_stage::{
-    OUT, Program, Stage, host_text, number, run_quietly, split_word, tell, tell_bytes, tell_each,
-    tell_tree, tell_without, words_of,
+use test_lines::{
+    host_text, number, split_word, tell, tell_bytes, tell_tree, words_of,
 };
+use test_stage::{OUT, Program, Stage, run_quietly, tell_each, tell_without};
 
 /// What stands between what a run prints and what is told of its folder.
 const BETWEEN: &str = "\n--\n";
@@ -34,7 +34,7 @@ fn add_printed(left: &mut String, printed: &[u8]) -> Result<(), NoMemory> {
 }
 
 /// What a run printed, and what is told of its folder.
-pub(crate) fn parts_of(left: &str) -> (&str, &str) {
+pub fn parts_of(left: &str) -> (&str, &str) {
     match left.split_once(BETWEEN) {
         Some(parts) => parts,
         None => (left, ""),
@@ -153,7 +153,7 @@ fn run_words(alloc: Global, command: &str, rest: &str) -> Result<Words, NoMemory
 }
 
 /// Runs a command on a fresh stage, and adds what it prints, and what is told of its folder.
-pub(crate) fn add_run<P: Program>(
+pub fn add_run<P: Program>(
     program: &P,
     alloc: Global,
     stage: &Stage,

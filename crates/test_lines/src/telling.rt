@@ -1,11 +1,10 @@
-//! What is told of statuses and trees. Each line of it begins with `> `.
+//! What is told of trees. Each line of it begins with `> `.
 
 use crate::bytes::{tell, tell_bytes};
-use crate::stage::host_text;
+use crate::places::host_text;
 use crate::sums::checksum;
 use fx_base::NoMemory;
-use fx_command::{Message, Status};
-use fx_outside::{Host, HostFault, HostKind, HostText, Listing, MemoryHost, Standing, Words};
+use fx_outside::{Host, HostFault, HostKind, HostText, Listing, MemoryHost, Standing};
 use std::alloc::Global;
 use std::fmt::Write;
 
@@ -33,23 +32,6 @@ const ENTRY_LIMIT: usize = 10_000;
 
 /// The most bytes that are told of a file.
 const FILE_LIMIT: usize = 1_048_576;
-
-/// Tells how a command ended: its status, the number of the record for which a journal is bad, and its line on standard error.
-pub(crate) fn tell_status(
-    out: &mut String,
-    words: &Words,
-    status: &Status,
-) -> Result<(), NoMemory> {
-    let code = status.code();
-    writeln!(out, "> status {code}")?;
-    if let Status::BadJournal { place } = status {
-        writeln!(out, "> record {place}")?;
-    }
-    if let Some(line) = Message::of(words, status) {
-        writeln!(out, "> said {line}")?;
-    }
-    Ok(())
-}
 
 /// What stands at a path. A call that fails is made once more.
 fn standing(alloc: Global, host: &mut MemoryHost, path: &HostText) -> Result<Standing, HostFault> {
@@ -233,7 +215,7 @@ fn tell_sum(
 }
 
 /// Tells what stands at a path, in so much detail.
-pub(crate) fn tell_left(
+pub fn tell_left(
     alloc: Global,
     host: &mut MemoryHost,
     detail: Detail,

@@ -13,7 +13,8 @@ use fx_store::Filestore;
 use fx_view::{Stop, Whole};
 use std::alloc::Global;
 use std::sync::Arc;
-use test_stage::{Program, Stage, number, split_word, tell, tell_bytes};
+use test_lines::{number, split_word, tell, tell_bytes};
+use test_stage::{Program, Stage};
 
 /// The lines behind a report.
 fn behind_report(printed: &str) -> &str {

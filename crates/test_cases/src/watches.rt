@@ -14,7 +14,8 @@ use std::alloc::Global;
 use std::marker::Brand;
 use std::sync::Arc;
 use std::sync::ledger::{Blank, Ledger};
-use test_stage::{Program, Stage, host_text, split_word, tell, unescaped};
+use test_lines::{host_text, split_word, tell, unescaped};
+use test_stage::{Program, Stage};
 
 fn tell_valid(out: &mut String, valid: bool) -> Result<(), NoMemory> {
     tell(out, if valid { "valid" } else { "not valid" })

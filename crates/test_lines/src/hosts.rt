@@ -3,13 +3,13 @@
 use crate::bytes::{tell, tell_bytes};
 use crate::escapes::unescaped;
 use crate::pieces::{number, split_word};
-use crate::stage::{Stage, host_text};
+use crate::places::host_text;
 use fx_base::NoMemory;
 use fx_outside::{Host, HostFault, HostText, Listing, MemoryHost, MemorySink, Sink};
 use std::alloc::Global;
 use std::fmt::Write;
 
-/// A call on the host or the sink.
+/// A call on the host.
 #[derive(Clone, Copy)]
 pub enum Call {
     Standing,
@@ -17,7 +17,6 @@ pub enum Call {
     Read,
     MakeDir,
     WriteNew,
-    Writes,
 }
 
 fn tell_fault(out: &mut String, fault: HostFault) -> Result<(), NoMemory> {
@@ -115,16 +114,10 @@ fn tell_write(out: &mut String, sink: &mut MemorySink, piece: &str) -> Result<()
     Ok(())
 }
 
-/// Tells what a fresh sink takes of each piece, and then all that it took.
-fn tell_writes(
-    alloc: Global,
-    stage: &Stage,
-    pieces: &str,
-    out: &mut String,
-) -> Result<(), NoMemory> {
-    let mut sink = stage.fresh_sink(alloc)?;
+/// Tells what a sink takes of each piece, and then all that it took.
+pub fn tell_writes(sink: &mut MemorySink, pieces: &str, out: &mut String) -> Result<(), NoMemory> {
     for piece in pieces.split(' ') {
-        tell_write(out, &mut sink, piece)?;
+        tell_write(out, sink, piece)?;
     }
     tell_bytes(out, sink.written())
 }
@@ -147,7 +140,6 @@ fn tell_on(
             tell_done(out, done)
         }
         Call::WriteNew => tell_write_new(alloc, host, path, text, out),
-        Call::Writes => Ok(()),
     }
 }
 
@@ -160,7 +152,8 @@ fn parts(call: Call, rest: &str) -> (&str, &str) {
     }
 }
 
-fn tell_at(
+/// Tells what a call gives.
+pub fn tell_call(
     alloc: Global,
     host: &mut MemoryHost,
     call: Call,
@@ -170,18 +163,4 @@ fn tell_at(
     let (path, text) = parts(call, rest);
     let path = host_text(alloc, path)?;
     tell_on(alloc, host, call, &path, text, out)
-}
-
-/// Tells what a call gives.
-pub fn tell_call(
-    alloc: Global,
-    stage: &mut Stage,
-    call: Call,
-    rest: &str,
-    out: &mut String,
-) -> Result<(), NoMemory> {
-    match call {
-        Call::Writes => tell_writes(alloc, stage, rest, out),
-        _ => tell_at(alloc, &mut stage.host, call, rest, out),
-    }
 }

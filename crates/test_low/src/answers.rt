@@ -1,11 +1,16 @@
 //! The lines of cases, and what each gives.
 
+use crate::known::tell_known;
+use crate::plans::tell_plans;
+use crate::stores::tell_stores;
+use crate::values::tell_values;
+use crate::words::tell_words;
 use fx_base::NoMemory;
 use fx_read_report::{Printed, ReportFault, read_report};
 use fx_report::printed_report;
 use std::alloc::Global;
 use std::fmt::Write;
-use test_stage::{Case, split_word, tell, tell_bytes, unescaped};
+use test_lines::{Case, split_word, tell, tell_bytes, unescaped};
 
 /// The bytes of a report, as far as a case has set them up.
 #[derive(Drop)]
@@ -21,6 +26,7 @@ enum Verb {
     Part,
     Read,
     Changed(Change),
+    Ample(Part),
 }
 
 /// What is done to a line.
@@ -32,6 +38,16 @@ enum Change {
     Lacking,
 }
 
+/// What is made where memory is ample.
+#[derive(Clone, Copy)]
+enum Part {
+    Values,
+    Stores,
+    Plans,
+    Words,
+    Known,
+}
+
 const VERBS: &[(&str, Verb)] = &[
     ("", Verb::Note),
     ("#", Verb::Note),
@@ -41,6 +57,11 @@ const VERBS: &[(&str, Verb)] = &[
     ("read", Verb::Read),
     ("broken", Verb::Changed(Change::Broken)),
     ("lacking", Verb::Changed(Change::Lacking)),
+    ("ample-values", Verb::Ample(Part::Values)),
+    ("ample-stores", Verb::Ample(Part::Stores)),
+    ("ample-plans", Verb::Ample(Part::Plans)),
+    ("ample-words", Verb::Ample(Part::Words)),
+    ("ample-known", Verb::Ample(Part::Known)),
 ];
 
 fn verb_of(word: &str) -> Option<Verb> {
@@ -139,6 +160,16 @@ fn tell_changed(
     Ok(())
 }
 
+fn tell_ample(alloc: Global, part: Part, out: &mut String) -> Result<(), NoMemory> {
+    match part {
+        Part::Values => tell_values(alloc, out),
+        Part::Stores => tell_stores(alloc, out),
+        Part::Plans => tell_plans(alloc, out),
+        Part::Words => tell_words(alloc, out),
+        Part::Known => tell_known(alloc, out),
+    }
+}
+
 impl Report {
     /// No bytes.
     pub fn new(alloc: Global) -> Report {
@@ -176,6 +207,7 @@ impl Case for Report {
             }
             Some(Verb::Read) => tell_read(alloc, self.bytes.as_slice(), out),
             Some(Verb::Changed(change)) => tell_changed(alloc, self.bytes.as_slice(), change, out),
+            Some(Verb::Ample(part)) => tell_ample(alloc, part, out),
         }
     }
 }

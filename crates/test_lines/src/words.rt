@@ -1,6 +1,6 @@
 //! The words of a command line.
 
-use crate::stage::host_text;
+use crate::places::host_text;
 use fx_base::NoMemory;
 use fx_outside::Words;
 use std::alloc::Global;

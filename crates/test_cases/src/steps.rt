@@ -12,9 +12,10 @@ use fx_view::{Known, Reads, Stop};
 use std::alloc::Global;
 use std::fmt::Write;
 use std::sync::Arc;
-use test_stage::{Program, Stage, split_word, tell, tell_bytes, unescaped};
+use test_lines::{split_word, tell, tell_bytes, unescaped};
+use test_stage::{Program, Stage};
 
-pub(crate) fn tell_refused(out: &mut String, status: &Status) -> Result<(), NoMemory> {
+pub fn tell_refused(out: &mut String, status: &Status) -> Result<(), NoMemory> {
     let code = status.code();
     writeln!(out, "> status {code}")?;
     Ok(())
