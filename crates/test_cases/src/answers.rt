@@ -96,7 +96,7 @@ const VERBS: &[(&str, Verb)] = &[
     ("steps", Verb::Try(Trial::Steps)),
     ("watch", Verb::Try(Trial::Watch)),
     ("standing", Verb::Call(Call::Standing)),
-    ("list", Verb::Call(Call::List)),
+    ("list", Verb::Call(Call::Find)),
     ("read", Verb::Call(Call::Read)),
     ("make-dir", Verb::Call(Call::MakeDir)),
     ("write-new", Verb::Call(Call::WriteNew)),

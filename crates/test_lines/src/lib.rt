@@ -15,7 +15,7 @@ mod words;
 pub use bytes::{add_bytes, tell, tell_bytes};
 pub use cases::{Case, add_answers};
 pub use escapes::unescaped;
-pub use hosts::{Call, tell_call, tell_writes};
+pub use hosts::{Call, tell_call, tell_on, tell_writes};
 pub use pieces::{integer, number, split_word};
 pub use places::{host_text, put};
 pub use telling::{Detail, tell_left, tell_tree};

@@ -1,6 +1,6 @@
 //! The lines of cases, and what each gives.
 
-use crate::calls::{Call, tell_call};
+use crate::calls::tell_call;
 use crate::run::tell_run;
 use crate::stage::Stage;
 use crate::telling::tell_tree;
@@ -12,7 +12,7 @@ use std::os::fd::AsRawFd;
 use std::os::unix::fs::symlink;
 use std::sync::Wait;
 use std::thread::Threads;
-use test_lines::{Case, number, split_word, tell};
+use test_lines::{Call, Case, number, split_word, tell};
 
 /// What a line sets up.
 #[derive(Clone, Copy)]
@@ -30,7 +30,6 @@ enum Verb {
     Note,
     Set(Setting),
     Call(Call),
-    Read,
     Run,
     Tree,
 }
@@ -46,7 +45,7 @@ const VERBS: &[(&str, Verb)] = &[
     ("room", Verb::Set(Setting::Room)),
     ("standing", Verb::Call(Call::Standing)),
     ("list", Verb::Call(Call::List)),
-    ("read", Verb::Read),
+    ("read", Verb::Call(Call::Read)),
     ("make-dir", Verb::Call(Call::MakeDir)),
     ("write-new", Verb::Call(Call::WriteNew)),
     ("txforest", Verb::Run),
@@ -116,16 +115,6 @@ fn set_up(
     Ok(())
 }
 
-fn call_on(rt: &HostRuntime, call: Call, rest: &str, out: &mut String) -> Result<(), NoMemory> {
-    let (path, text) = split_word(rest);
-    tell_call(rt, call, path, text, out)
-}
-
-fn read_at(rt: &HostRuntime, rest: &str, out: &mut String) -> Result<(), NoMemory> {
-    let (path, from) = split_word(rest);
-    tell_call(rt, Call::Read(u64::from(number(from))), path, "", out)
-}
-
 /// The words, with the path of the pipe at the word `PIPE`.
 fn words_of(rt: &HostRuntime, words: &str, pipe: &Option<PipeReader>) -> Result<String, NoMemory> {
     match pipe {
@@ -170,8 +159,7 @@ impl<T: Clone + Threads + Wait + Sync> Case for Tried<'_, T> {
             None => tell(out, "no such word"),
             Some(Verb::Note) => Ok(()),
             Some(Verb::Set(setting)) => set_up(self.rt, setting, rest, self.before, out),
-            Some(Verb::Call(call)) => call_on(self.rt, call, rest, out),
-            Some(Verb::Read) => read_at(self.rt, rest, out),
+            Some(Verb::Call(call)) => tell_call(self.rt, call, rest, out),
             Some(Verb::Run) => run(self.rt, self.threads, rest, self.before, out),
             Some(Verb::Tree) => tell_tree(self.rt, rest, out),
         }
