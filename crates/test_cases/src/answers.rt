@@ -8,12 +8,10 @@ use crate::watches::tell_watch;
 use fx_base::NoMemory;
 use fx_outside::HostKind;
 use std::alloc::Global;
-use test_lines::{
-    Call, Case, number, split_word, tell, tell_call, tell_tree, tell_writes,
-};
+use test_lines::{Call, Case, number, split_word, tell, tell_call, tell_tree, tell_writes};
 use test_stage::{
-    Program, Stage, tell_changes, tell_disk, tell_faults, tell_message, tell_rooms,
-    tell_schedules, tell_stops, tell_top,
+    Program, Stage, tell_changes, tell_disk, tell_faults, tell_message, tell_rooms, tell_schedules,
+    tell_stops, tell_top,
 };
 
 /// What a line sets up.

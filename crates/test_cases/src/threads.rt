@@ -13,9 +13,7 @@ use fx_store::Filestore;
 use std::alloc::Global;
 use std::collections::BTreeSet;
 use std::sync::Arc;
-use test_lines::{
-    host_text, number, split_word, tell, tell_bytes, tell_tree, words_of,
-};
+use test_lines::{host_text, number, split_word, tell, tell_bytes, tell_tree, words_of};
 use test_stage::{OUT, Program, Stage, run_quietly, tell_each, tell_without};
 
 /// What stands between what a run prints and what is told of its folder.

@@ -87,10 +87,7 @@ fn tell_read<H: Host>(
     }
 }
 
-fn tell_done(
-    out: &mut String,
-    done: Result<(), HostFault>,
-) -> Result<Option<HostFault>, NoMemory> {
+fn tell_done(out: &mut String, done: Result<(), HostFault>) -> Result<Option<HostFault>, NoMemory> {
     match done {
         Ok(()) => {
             tell(out, "done")?;
