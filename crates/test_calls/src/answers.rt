@@ -3,7 +3,7 @@
 use crate::{grammar, made, names, reports, values};
 use fx_base::NoMemory;
 use std::alloc::Global;
-use test_stage::{Case, integer, number, split_word, tell};
+use test_lines::{Case, integer, number, split_word, tell};
 
 /// A call of a lower crate, with texts.
 #[derive(Clone, Copy)]

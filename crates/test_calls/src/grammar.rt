@@ -7,7 +7,7 @@ use fx_outside::{HostText, Words};
 use fx_parse::{ParseFault, parse_expr, parse_shape};
 use std::alloc::Global;
 use std::fmt::Write;
-use test_stage::{add_bytes, tell, unescaped};
+use test_lines::{add_bytes, tell, unescaped};
 
 /// What a text is read as.
 #[derive(Clone, Copy)]

@@ -7,7 +7,7 @@ use fx_base::NoMemory;
 use fx_expr::{Keyed, Text, TextSet, Value};
 use fx_report::value_line;
 use std::alloc::Global;
-use test_stage::{integer, tell_bytes};
+use test_lines::{integer, tell_bytes};
 
 /// Adds the texts between commas.
 fn add_texts(alloc: Global, texts: &mut Vec<Text>, spelled: &str) -> Result<(), NoMemory> {

@@ -13,7 +13,7 @@ mod values;
 use reports::Parts;
 use std::io;
 use std::io::ErrorKind;
-use test_stage::add_answers;
+use test_lines::add_answers;
 
 fn main(rt: HostRuntime) -> io::Result<()> {
     let alloc = rt.alloc();

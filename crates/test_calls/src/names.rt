@@ -4,7 +4,7 @@ use fx_base::NoMemory;
 use fx_store::{LinkText, Name, Path, PathFault};
 use std::alloc::Global;
 use std::fmt::Write;
-use test_stage::{add_bytes, tell, unescaped};
+use test_lines::{add_bytes, tell, unescaped};
 
 /// What a text is read as.
 #[derive(Clone, Copy)]

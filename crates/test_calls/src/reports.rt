@@ -8,7 +8,7 @@ use fx_report::{PrintedEntries, PrintedEntry, Retries, Retry, event_lines, print
 use fx_spec::{End, Refusal};
 use fx_store::Path;
 use std::alloc::Global;
-use test_stage::{number, split_word, tell_bytes, unescaped};
+use test_lines::{number, split_word, tell_bytes, unescaped};
 
 /// The parts of a case.
 #[derive(Drop)]

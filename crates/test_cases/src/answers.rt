@@ -1,13 +1,17 @@
 //! The lines of cases, and what each gives.
 
 use crate::door::Door;
+use crate::steps::{tell_attempt, tell_steps};
+use crate::threads::{tell_outcomes, tell_threads};
+use crate::views::tell_views;
+use crate::watches::tell_watch;
 use fx_base::NoMemory;
 use fx_outside::HostKind;
 use std::alloc::Global;
-use test_runs::{tell_attempt, tell_steps, tell_threads, tell_views, tell_watch};
+use test_lines::{Call, Case, number, split_word, tell, tell_call, tell_tree, tell_writes};
 use test_stage::{
-    Call, Case, Program, Stage, number, split_word, tell, tell_call, tell_changes, tell_disk,
-    tell_faults, tell_message, tell_rooms, tell_schedules, tell_stops, tell_top, tell_tree,
+    Program, Stage, tell_changes, tell_disk, tell_faults, tell_message, tell_rooms, tell_schedules,
+    tell_stops, tell_top,
 };
 
 /// What a line sets up.
@@ -36,12 +40,15 @@ enum Trial {
     Schedules,
     Stops,
     Threads,
+    Retried,
+    Outcomes,
     Views,
     Tree,
     Disk,
     Attempt,
     Steps,
     Watch,
+    Writes,
 }
 
 #[derive(Clone, Copy)]
@@ -49,6 +56,7 @@ enum Verb {
     Note,
     Set(Setting),
     Hold,
+    Delay,
     Try(Trial),
     Call(Call),
     Message,
@@ -69,6 +77,7 @@ const VERBS: &[(&str, Verb)] = &[
     ("room", Verb::Set(Setting::Room)),
     ("tell", Verb::Set(Setting::Tell)),
     ("hold", Verb::Hold),
+    ("delay", Verb::Delay),
     ("top", Verb::Try(Trial::Top)),
     ("faults", Verb::Try(Trial::Faults)),
     ("changes", Verb::Try(Trial::Changes)),
@@ -76,6 +85,8 @@ const VERBS: &[(&str, Verb)] = &[
     ("schedules", Verb::Try(Trial::Schedules)),
     ("stops", Verb::Try(Trial::Stops)),
     ("threads", Verb::Try(Trial::Threads)),
+    ("retried", Verb::Try(Trial::Retried)),
+    ("outcomes", Verb::Try(Trial::Outcomes)),
     ("views", Verb::Try(Trial::Views)),
     ("tree", Verb::Try(Trial::Tree)),
     ("disk", Verb::Try(Trial::Disk)),
@@ -83,11 +94,11 @@ const VERBS: &[(&str, Verb)] = &[
     ("steps", Verb::Try(Trial::Steps)),
     ("watch", Verb::Try(Trial::Watch)),
     ("standing", Verb::Call(Call::Standing)),
-    ("list", Verb::Call(Call::List)),
+    ("list", Verb::Call(Call::Find)),
     ("read", Verb::Call(Call::Read)),
     ("make-dir", Verb::Call(Call::MakeDir)),
     ("write-new", Verb::Call(Call::WriteNew)),
-    ("writes", Verb::Call(Call::Writes)),
+    ("writes", Verb::Try(Trial::Writes)),
     ("message", Verb::Message),
 ];
 
@@ -157,13 +168,16 @@ fn try_out<P: Program>(
         Trial::Rooms => tell_rooms(program, alloc, stage, rest, out),
         Trial::Schedules => tell_schedules(program, alloc, stage, out),
         Trial::Stops => tell_stops(program, alloc, stage, rest, out),
-        Trial::Threads => tell_threads(program, alloc, stage, rest, out),
+        Trial::Threads => tell_threads(program, alloc, stage, false, rest, out),
+        Trial::Retried => tell_threads(program, alloc, stage, true, rest, out),
+        Trial::Outcomes => tell_outcomes(program, alloc, stage, rest, out),
         Trial::Views => tell_views(program, alloc, stage, rest, out),
         Trial::Tree => tell_tree(alloc, &mut stage.host, rest, out),
         Trial::Disk => tell_disk_of(alloc, stage, out),
         Trial::Attempt => tell_attempt(program, alloc, stage, rest, out),
         Trial::Steps => tell_steps(program, alloc, stage, rest, out),
         Trial::Watch => tell_watch(program, alloc, stage, rest, out),
+        Trial::Writes => tell_writes(&mut stage.fresh_sink(alloc)?, rest, out),
     }
 }
 
@@ -198,11 +212,15 @@ impl<P: Program> Case for Tried<'_, P> {
                 self.door.hold(rest);
                 Ok(())
             }
+            Some(Verb::Delay) => {
+                self.door.delay();
+                Ok(())
+            }
             Some(Verb::Try(trial)) => {
                 try_out(self.program, alloc, self.stage, trial, rest, out)?;
                 tell_missed(self.door, out)
             }
-            Some(Verb::Call(call)) => tell_call(alloc, self.stage, call, rest, out),
+            Some(Verb::Call(call)) => tell_call(alloc, &mut self.stage.host, call, rest, out),
             Some(Verb::Message) => tell_message(alloc, rest, out),
         }
     }

@@ -6,13 +6,20 @@
 mod answers;
 mod door;
 mod program;
+mod replay;
+mod shells;
+mod steps;
+mod threads;
+mod views;
+mod watches;
 
 use answers::Tried;
 use door::Door;
 use program::top_on;
 use std::io;
 use std::io::ErrorKind;
-use test_stage::{Stage, add_answers};
+use test_lines::add_answers;
+use test_stage::Stage;
 
 fn main(rt: HostRuntime) -> io::Result<()> {
     let alloc = rt.alloc();

@@ -13,7 +13,8 @@ use std::alloc::Global;
 use std::marker::PhantomData;
 use std::sync::{Arc, Wait};
 use std::thread::Threads;
-use test_stage::{Program, Stage, words_of};
+use test_lines::words_of;
+use test_stage::{Program, Stage};
 
 /// The threads and the waiting of a runtime.
 #[derive(Drop)]
@@ -55,6 +56,7 @@ impl<R: Threads + Wait + Sync> Program for Top<'_, R> {
         sink: &mut MemorySink,
         disk: &mut MemoryDisk,
     ) -> Status {
+        self.door.begin();
         top(&self.handles, alloc, words, host, sink, self.door, disk)
     }
 

@@ -1,8 +1,11 @@
+//! Bytes, names, paths and filestores, where memory is ample.
+
 use fx_base::NoMemory;
 use fx_store::{
     Bytes, Change, Changes, Filestore, LinkText, Name, NameList, Names, Node, Path, Paths,
 };
 use std::alloc::Global;
+use std::fmt::Write;
 
 fn some_bytes(alloc: Global) -> Result<Bytes, NoMemory> {
     let bytes = Bytes::from_vec(Vec::from_slice(alloc, b"h")?);
@@ -14,11 +17,6 @@ fn bytes_told(alloc: Global) -> Result<(bool, u64), NoMemory> {
     let bytes = some_bytes(alloc)?;
     let same = bytes.as_slice() == b"h".as_slice();
     Ok((same, bytes.clone()?.len()))
-}
-
-#[test]
-fn bytes_are_copied(rt: HostRuntime) {
-    assert_eq!(rt; bytes_told(rt.alloc()), Ok((true, 1)));
 }
 
 fn some_name(alloc: Global) -> Result<Name, NoMemory> {
@@ -57,12 +55,6 @@ fn list_told(alloc: Global) -> Result<u64, NoMemory> {
     Ok(some_list(alloc, &name)?.len())
 }
 
-#[test]
-fn names_are_added(rt: HostRuntime) {
-    assert_eq!(rt; names_told(rt.alloc()), Ok((true, true, 1)));
-    assert_eq!(rt; list_told(rt.alloc()), Ok(1));
-}
-
 fn some_paths(alloc: Global, path: &Path) -> Result<Paths, NoMemory> {
     let copy = path.copy(alloc)?;
     let mut paths = Paths::new(alloc);
@@ -90,12 +82,6 @@ fn paths_told(alloc: Global) -> Result<(u32, bool), NoMemory> {
 fn changes_told(alloc: Global) -> Result<u64, NoMemory> {
     let changes = one_change(alloc, Path::root(alloc), None)?;
     Ok(changes.copy(alloc)?.len())
-}
-
-#[test]
-fn paths_and_changes_are_added(rt: HostRuntime) {
-    assert_eq!(rt; paths_told(rt.alloc()), Ok((0, true)));
-    assert_eq!(rt; changes_told(rt.alloc()), Ok(1));
 }
 
 fn some_path(alloc: Global) -> Result<Path, NoMemory> {
@@ -130,11 +116,6 @@ fn store_told(alloc: Global) -> Result<(u64, u64, bool, bool), NoMemory> {
     Ok(counts(&store.copy(alloc)?, &root))
 }
 
-#[test]
-fn a_filestore_is_made_and_copied(rt: HostRuntime) {
-    assert_eq!(rt; store_told(rt.alloc()), Ok((1, 0, true, false)));
-}
-
 fn reserved(alloc: Global, changes: &Changes) -> Result<Filestore, NoMemory> {
     let mut store = Filestore::new(alloc)?;
     store.reserve(alloc, changes)?;
@@ -156,11 +137,6 @@ fn places_told(alloc: Global) -> Result<[(u64, bool); 2], NoMemory> {
         places_of(alloc, &Changes::new(alloc), &path)?,
         places_of(alloc, &changes, &path)?,
     ])
-}
-
-#[test]
-fn places_are_reserved(rt: HostRuntime) {
-    assert_eq!(rt; places_told(rt.alloc()), Ok([(1, false), (2, false)]));
 }
 
 fn some_link(alloc: Global) -> Result<LinkText, NoMemory> {
@@ -209,8 +185,16 @@ fn change_told(alloc: Global) -> Result<(u32, bool, bool), NoMemory> {
     ))
 }
 
-#[test]
-fn links_and_changes_are_copied(rt: HostRuntime) {
-    assert_eq!(rt; link_told(rt.alloc()), Ok(true));
-    assert_eq!(rt; change_told(rt.alloc()), Ok((0, true, true)));
+/// Tells what is added to names, paths and filestores, and what copies and clones of them are.
+pub fn tell_stores(alloc: Global, out: &mut String) -> Result<(), NoMemory> {
+    writeln!(out, "> bytes {:?}", bytes_told(alloc)?)?;
+    writeln!(out, "> names {:?}", names_told(alloc)?)?;
+    writeln!(out, "> list {:?}", list_told(alloc)?)?;
+    writeln!(out, "> paths {:?}", paths_told(alloc)?)?;
+    writeln!(out, "> changes {:?}", changes_told(alloc)?)?;
+    writeln!(out, "> store {:?}", store_told(alloc)?)?;
+    writeln!(out, "> places {:?}", places_told(alloc)?)?;
+    writeln!(out, "> link {:?}", link_told(alloc)?)?;
+    writeln!(out, "> change {:?}", change_told(alloc)?)?;
+    Ok(())
 }

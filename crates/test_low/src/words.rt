@@ -1,6 +1,9 @@
+//! Words and listings, where memory is ample.
+
 use fx_base::NoMemory;
 use fx_outside::{HostKind, HostText, Listing, Words};
 use std::alloc::Global;
+use std::fmt::Write;
 
 fn text(alloc: Global, bytes: &str) -> Result<HostText, NoMemory> {
     Ok(HostText::from_string(String::from_str(alloc, bytes)?))
@@ -17,11 +20,6 @@ fn one_word(alloc: Global) -> Result<Words, NoMemory> {
 fn words_told(alloc: Global) -> Result<(u64, bool), NoMemory> {
     let words = one_word(alloc)?;
     Ok((words.len(), words.at(0).map(|w| w.as_str()) == Some("run")))
-}
-
-#[test]
-fn words_are_listed(rt: HostRuntime) {
-    assert_eq!(rt; words_told(rt.alloc()), Ok((1, true)));
 }
 
 fn add_file(alloc: Global, names: &mut Listing, name: &str) -> Result<(), NoMemory> {
@@ -47,7 +45,9 @@ fn names_told(alloc: Global) -> Result<(u64, bool), NoMemory> {
     Ok((names.len(), names.get(&other).is_some()))
 }
 
-#[test]
-fn names_are_listed_once(rt: HostRuntime) {
-    assert_eq!(rt; names_told(rt.alloc()), Ok((2, false)));
+/// Tells what is listed of words, and of names that are added once.
+pub fn tell_words(alloc: Global, out: &mut String) -> Result<(), NoMemory> {
+    writeln!(out, "> words {:?}", words_told(alloc)?)?;
+    writeln!(out, "> names {:?}", names_told(alloc)?)?;
+    Ok(())
 }

@@ -7,7 +7,7 @@ use fx_lex::{LexFault, Tokens, lex};
 use fx_parse::parse_shape;
 use fx_store::{Bytes, LinkText, Name, Names, Node, Path};
 use std::alloc::Global;
-use test_stage::{integer, split_word, unescaped};
+use test_lines::{integer, split_word, unescaped};
 
 /// A text as it stands in a case, up to the limit of texts.
 pub fn text_of(alloc: Global, spelled: &str) -> Result<Text, NoMemory> {

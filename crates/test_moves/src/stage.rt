@@ -8,7 +8,7 @@ use fx_source_parse::spec::parse;
 use fx_spec::{Base, Checked, Defs, Description, Plan, Spec};
 use fx_store::Filestore;
 use std::alloc::Global;
-use test_stage::{Stage, host_text, split_word, unescaped};
+use test_lines::{host_text, put, split_word, unescaped};
 
 /// The folder on the host.
 const FOLDER: &str = "in";
@@ -19,22 +19,23 @@ pub fn is_answer(line: &str) -> bool {
 }
 
 /// Puts the file that a line says, where it says one.
-fn set_up(alloc: Global, stage: &mut Stage, line: &str) -> Result<(), NoMemory> {
+fn set_up(alloc: Global, host: &mut MemoryHost, line: &str) -> Result<(), NoMemory> {
     let (word, rest) = split_word(line);
     if word != "file" {
         return Ok(());
     }
     let (path, text) = split_word(rest);
     let path = format!(in alloc; "{FOLDER}{path}")?;
-    stage.put(alloc, path.as_str(), HostKind::File, text)?;
+    let bytes = unescaped(alloc, text)?;
+    put(alloc, host, path.as_str(), HostKind::File, &bytes)?;
     Ok(())
 }
 
 /// Puts the folder of a case.
-fn put_all(alloc: Global, stage: &mut Stage, case: &str) -> Result<(), NoMemory> {
-    stage.put(alloc, FOLDER, HostKind::Folder, "")?;
+fn put_all(alloc: Global, host: &mut MemoryHost, case: &str) -> Result<(), NoMemory> {
+    put(alloc, host, FOLDER, HostKind::Folder, b"")?;
     for line in case.lines() {
-        set_up(alloc, stage, line)?;
+        set_up(alloc, host, line)?;
     }
     Ok(())
 }
@@ -50,9 +51,9 @@ fn loaded(alloc: Global, host: &mut MemoryHost) -> Result<Filestore, NoMemory> {
 
 /// The folder of a case.
 fn store_of(alloc: Global, case: &str) -> Result<Filestore, NoMemory> {
-    let mut stage = Stage::new(alloc);
-    put_all(alloc, &mut stage, case)?;
-    loaded(alloc, &mut stage.host)
+    let mut host = MemoryHost::new(alloc);
+    put_all(alloc, &mut host, case)?;
+    loaded(alloc, &mut host)
 }
 
 /// The text of the description of a case; that of a file where it says none.

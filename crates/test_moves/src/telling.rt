@@ -11,7 +11,7 @@ use fx_store::{Names, Node, Path};
 use fx_view::{Overlay, Reads};
 use std::alloc::Global;
 use std::fmt::Write;
-use test_stage::{add_bytes, tell, tell_bytes};
+use test_lines::{add_bytes, tell, tell_bytes};
 
 /// Adds the names of a path, each behind a slash.
 fn add_path(out: &mut String, path: &Path) -> Result<(), NoMemory> {

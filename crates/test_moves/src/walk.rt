@@ -16,7 +16,7 @@ use fx_zip::Zip;
 use std::alloc::Global;
 use std::sync::Arc;
 use std::sync::ledger::{Blank, Ledger};
-use test_stage::split_word;
+use test_lines::split_word;
 
 /// A zipper over a base, with what it reads through.
 #[derive(Drop)]

@@ -1,17 +1,18 @@
 //! The lines of cases, and what each gives.
 
-use crate::calls::{Call, tell_call};
+use crate::calls::tell_call;
 use crate::run::tell_run;
 use crate::stage::Stage;
 use crate::telling::tell_tree;
 use fx_base::NoMemory;
+use std::alloc::Global;
 use std::fs::{self, File};
 use std::io::{self, PipeReader, Write};
 use std::os::fd::AsRawFd;
 use std::os::unix::fs::symlink;
 use std::sync::Wait;
 use std::thread::Threads;
-use test_stage::{number, split_word, tell};
+use test_lines::{Call, Case, number, split_word, tell};
 
 /// What a line sets up.
 #[derive(Clone, Copy)]
@@ -29,7 +30,6 @@ enum Verb {
     Note,
     Set(Setting),
     Call(Call),
-    Read,
     Run,
     Tree,
 }
@@ -45,7 +45,7 @@ const VERBS: &[(&str, Verb)] = &[
     ("room", Verb::Set(Setting::Room)),
     ("standing", Verb::Call(Call::Standing)),
     ("list", Verb::Call(Call::List)),
-    ("read", Verb::Read),
+    ("read", Verb::Call(Call::Read)),
     ("make-dir", Verb::Call(Call::MakeDir)),
     ("write-new", Verb::Call(Call::WriteNew)),
     ("txforest", Verb::Run),
@@ -115,16 +115,6 @@ fn set_up(
     Ok(())
 }
 
-fn call_on(rt: &HostRuntime, call: Call, rest: &str, out: &mut String) -> Result<(), NoMemory> {
-    let (path, text) = split_word(rest);
-    tell_call(rt, call, path, text, out)
-}
-
-fn read_at(rt: &HostRuntime, rest: &str, out: &mut String) -> Result<(), NoMemory> {
-    let (path, from) = split_word(rest);
-    tell_call(rt, Call::Read(u64::from(number(from))), path, "", out)
-}
-
 /// The words, with the path of the pipe at the word `PIPE`.
 fn words_of(rt: &HostRuntime, words: &str, pipe: &Option<PipeReader>) -> Result<String, NoMemory> {
     match pipe {
@@ -154,51 +144,24 @@ fn run<T: Clone + Threads + Wait + Sync>(
     tell_run(&stage, out)
 }
 
-/// Adds what a line gives.
-fn answer<T: Clone + Threads + Wait + Sync>(
-    rt: &HostRuntime,
-    threads: &T,
-    line: &str,
-    before: &mut Before,
-    out: &mut String,
-) -> Result<(), NoMemory> {
-    let (word, rest) = split_word(line);
-    match verb_of(word) {
-        None => tell(out, "no such word"),
-        Some(Verb::Note) => Ok(()),
-        Some(Verb::Set(setting)) => set_up(rt, setting, rest, before, out),
-        Some(Verb::Call(call)) => call_on(rt, call, rest, out),
-        Some(Verb::Read) => read_at(rt, rest, out),
-        Some(Verb::Run) => run(rt, threads, rest, before, out),
-        Some(Verb::Tree) => tell_tree(rt, rest, out),
-    }
+/// The machine, the threads of a run, and what the lines before have set up.
+#[derive(Drop)]
+pub struct Tried<'a, T> {
+    pub rt: &'a HostRuntime,
+    pub threads: &'a T,
+    pub before: &'a mut Before,
 }
 
-/// Adds a line and what it gives.
-fn add_answered<T: Clone + Threads + Wait + Sync>(
-    rt: &HostRuntime,
-    threads: &T,
-    line: &str,
-    before: &mut Before,
-    out: &mut String,
-) -> Result<(), NoMemory> {
-    out.push_str(line)?;
-    out.push_str("\n")?;
-    answer(rt, threads, line, before, out)
-}
-
-/// Adds the lines that begin with no `>`, each with what it gives.
-pub fn add_answers<T: Clone + Threads + Wait + Sync>(
-    rt: &HostRuntime,
-    threads: &T,
-    cases: &str,
-    before: &mut Before,
-    out: &mut String,
-) -> Result<(), NoMemory> {
-    for line in cases.lines() {
-        if !line.starts_with('>') {
-            add_answered(rt, threads, line, before, out)?;
+impl<T: Clone + Threads + Wait + Sync> Case for Tried<'_, T> {
+    fn answer(&mut self, _alloc: Global, line: &str, out: &mut String) -> Result<(), NoMemory> {
+        let (word, rest) = split_word(line);
+        match verb_of(word) {
+            None => tell(out, "no such word"),
+            Some(Verb::Note) => Ok(()),
+            Some(Verb::Set(setting)) => set_up(self.rt, setting, rest, self.before, out),
+            Some(Verb::Call(call)) => tell_call(self.rt, call, rest, out),
+            Some(Verb::Run) => run(self.rt, self.threads, rest, self.before, out),
+            Some(Verb::Tree) => tell_tree(self.rt, rest, out),
         }
     }
-    Ok(())
 }

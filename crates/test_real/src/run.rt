@@ -10,7 +10,7 @@ use std::io;
 use std::process::{ExitCode, Termination};
 use std::sync::Wait;
 use std::thread::Threads;
-use test_stage::tell;
+use test_lines::tell;
 
 /// The number of a code.
 fn number_of(code: ExitCode) -> u8 {

@@ -4,7 +4,7 @@ use fx_base::NoMemory;
 use std::fmt::Write;
 use std::fs::{self, DirEntry, FileType};
 use std::io::{self, ErrorKind};
-use test_stage::{tell, tell_bytes};
+use test_lines::{tell, tell_bytes};
 
 /// The most entries that are told of a tree.
 const ENTRY_LIMIT: usize = 10_000;

@@ -1,8 +1,8 @@
 //! What differs between the texts that two tries give.
 
-use crate::bytes::tell;
 use fx_base::NoMemory;
 use std::fmt::Write;
+use test_lines::tell;
 
 /// Whether a text has a line.
 fn has_line(text: &str, wanted: &str) -> bool {

@@ -1,11 +1,11 @@
 //! The disk of a case, and what is told of it.
 
-use crate::stage::host_text;
 use fx_base::NoMemory;
 use fx_durable::{Disk, DiskFailed, MemoryDisk};
 use fx_outside::HostText;
 use std::alloc::Global;
 use std::fmt::Write;
+use test_lines::host_text;
 
 /// The path of the file on a case's disk.
 pub(crate) const JOURNAL: &str = "journal";

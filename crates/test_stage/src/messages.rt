@@ -1,15 +1,13 @@
 //! The lines on standard error of statuses that are made of parts, in place of a run's.
 
-use crate::escapes::unescaped;
-use crate::pieces::{number, split_word};
-use crate::stage::host_text;
-use crate::telling::tell_status;
+use crate::statuses::tell_status;
 use fx_base::NoMemory;
 use fx_command::{Status, TextFault};
 use fx_expr::{Shape, Word};
 use fx_folder::FolderCause;
 use fx_outside::{HostText, Words};
 use std::alloc::Global;
+use test_lines::{host_text, number, split_word, unescaped};
 
 /// The words of the command line: one with a letter that is not ASCII and a line feed, and one with a backslash.
 const WORDS: [&str; 3] = ["run", "spec \u{e9}\n", "a\\n"];

@@ -2,7 +2,7 @@
 
 use crate::disks::empty_disk;
 use crate::stage::Stage;
-use crate::telling::tell_status;
+use crate::statuses::tell_status;
 use fx_base::NoMemory;
 use fx_command::Status;
 use fx_durable::MemoryDisk;

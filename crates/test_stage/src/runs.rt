@@ -1,15 +1,13 @@
 //! Single runs of a program over a host, a sink and a disk in memory.
 
-use crate::bytes::tell_bytes;
 use crate::disks::empty_disk;
 use crate::program::{OUT, Program, tell_end_over};
 use crate::stage::Stage;
-use crate::telling::{Detail, tell_left};
-use crate::words::words_of;
 use fx_base::NoMemory;
 use fx_durable::MemoryDisk;
 use fx_outside::{MemoryHost, MemorySink, Words};
 use std::alloc::Global;
+use test_lines::{Detail, tell_bytes, tell_left, words_of};
 
 /// Runs a command over a disk, and tells its status, its line on standard error, what it printed, and what stands at OUT.
 fn tell_run_over<P: Program>(

@@ -1,14 +1,12 @@
 //! Traces of two scripts by all schedules of six steps.
 
-use crate::bytes::tell;
 use crate::program::{OUT, Program, tell_end};
 use crate::stage::Stage;
-use crate::telling::tell_tree;
-use crate::words::words_of;
 use fx_base::NoMemory;
 use fx_outside::{MemoryHost, MemorySink, Words};
 use std::alloc::Global;
 use std::collections::BTreeSet;
+use test_lines::{tell, tell_tree, words_of};
 
 /// The number of schedules of six steps of two shells.
 const SCHEDULES: u32 = 64;
@@ -34,20 +32,23 @@ fn add_trace(line: &mut String, number: u32) -> Result<(), NoMemory> {
     Ok(())
 }
 
-/// Whether a line of a trace depends on the order alone in which the transactions are settled.
-fn is_of_order(line: &str) -> bool {
-    for front in ["look ", "conflict ", "retries ", "retry "] {
-        if line.starts_with(front) {
-            return false;
+/// The fronts of the lines of a trace that do not depend on the order alone in which the transactions are settled.
+const OF_STEPS: [&str; 4] = ["look ", "conflict ", "retries ", "retry "];
+
+/// Whether a line begins with one of four fronts.
+fn begins_with_any(line: &str, fronts: &[&str; 4]) -> bool {
+    for front in fronts {
+        if line.starts_with(*front) {
+            return true;
         }
     }
-    true
+    false
 }
 
-/// Tells the lines of a trace without its looks, conflicts and retries.
-fn tell_order(out: &mut String, trace: &str) -> Result<(), NoMemory> {
-    for line in trace.lines() {
-        if is_of_order(line) {
+/// Tells the lines of a text that begin with none of four fronts.
+pub fn tell_without(out: &mut String, text: &str, fronts: &[&str; 4]) -> Result<(), NoMemory> {
+    for line in text.lines() {
+        if !begins_with_any(line, fronts) {
             tell(out, line)?;
         }
     }
@@ -56,7 +57,7 @@ fn tell_order(out: &mut String, trace: &str) -> Result<(), NoMemory> {
 
 fn tell_printed(out: &mut String, printed: &[u8]) -> Result<(), NoMemory> {
     match std::str::from_utf8(printed) {
-        Ok(trace) => tell_order(out, trace),
+        Ok(trace) => tell_without(out, trace, &OF_STEPS),
         Err(_) => tell(out, "not UTF-8"),
     }
 }
@@ -103,8 +104,9 @@ fn add_order<P: Program>(
     Ok(())
 }
 
-fn tell_orders(orders: &BTreeSet<String>, out: &mut String) -> Result<(), NoMemory> {
-    for told in orders {
+/// Tells texts, each behind the one before.
+pub fn tell_each(texts: &BTreeSet<String>, out: &mut String) -> Result<(), NoMemory> {
+    for told in texts {
         out.push_str(told.as_str())?;
         tell(out, "--")?;
     }
@@ -122,5 +124,5 @@ pub fn tell_schedules<P: Program>(
     for number in 0..SCHEDULES {
         add_order(program, alloc, stage, number, &mut orders)?;
     }
-    tell_orders(&orders, out)
+    tell_each(&orders, out)
 }

@@ -1,16 +1,13 @@
 //! Commands that are run again and again, each time with another call of the host that fails, or into a sink of more room.
 
-use crate::bytes::{tell, tell_bytes};
 use crate::changes::{tell_change, tell_new, tell_room};
-use crate::pieces::{number, split_word};
 use crate::program::{OUT, Program, run_quietly, tell_end};
 use crate::runs::tell_run;
 use crate::stage::Stage;
-use crate::telling::tell_left;
-use crate::words::words_of;
 use fx_base::NoMemory;
 use fx_outside::{MemoryHost, MemorySink, Words};
 use std::alloc::Global;
+use test_lines::{number, split_word, tell, tell_bytes, tell_left, words_of};
 
 /// The last of the calls of which each is made to fail.
 const LAST_CALL: u64 = 199;

@@ -1,12 +1,11 @@
 //! What a case sets up: a host and a disk, the calls on them that are to fail, and the sink that a run prints to.
 
 use crate::disks::{disk_of, empty_disk};
-use crate::escapes::unescaped;
-use crate::telling::Detail;
 use fx_base::NoMemory;
 use fx_durable::MemoryDisk;
-use fx_outside::{HostKind, HostText, MemoryHost, MemorySink};
+use fx_outside::{HostKind, MemoryHost, MemorySink};
 use std::alloc::Global;
+use test_lines::{Detail, put, unescaped};
 
 /// The room of a sink where a case says nothing of it.
 const ROOM: u64 = 100_000;
@@ -33,31 +32,6 @@ pub struct Stage {
     room: u64,
     failing_writes: Vec<u64>,
     disk: Option<MemoryDisk>,
-}
-
-/// A text as hosts take one.
-pub fn host_text(alloc: Global, text: &str) -> Result<HostText, NoMemory> {
-    Ok(HostText::from_string(String::from_str(alloc, text)?))
-}
-
-/// Puts an entry where nothing stands and a folder stands above, and says whether it did.
-fn put(
-    alloc: Global,
-    host: &mut MemoryHost,
-    path: &str,
-    kind: HostKind,
-    bytes: &[u8],
-) -> Result<bool, NoMemory> {
-    let path = host_text(alloc, path)?;
-    if !host.is_free(alloc, &path)? {
-        return Ok(false);
-    }
-    match kind {
-        HostKind::File => host.put(alloc, &path, HostKind::File, bytes)?,
-        HostKind::Folder => host.put(alloc, &path, HostKind::Folder, b"")?,
-        HostKind::Other => host.put(alloc, &path, HostKind::Other, b"")?,
-    }
-    Ok(true)
 }
 
 fn detail_of(name: &str) -> Detail {

@@ -4,13 +4,13 @@
 use crate::disks::{JOURNAL, disk_of, empty_disk};
 use crate::program::{OUT, Program};
 use crate::stage::Stage;
-use crate::words::words_of;
 use fx_base::NoMemory;
 use fx_durable::{DiskCall, MemoryDisk};
 use fx_outside::Words;
 use std::alloc::Global;
 use std::collections::BTreeSet;
 use std::fmt::Write;
+use test_lines::words_of;
 
 /// The last of the calls of a disk at which a stop is tried.
 const LAST_CALL: u64 = 199;

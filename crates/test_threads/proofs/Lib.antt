@@ -1,2 +1,0 @@
-mod Attempts
-mod Passing
