@@ -40,21 +40,18 @@ fn is_same(value: &Value, other: &Value) -> bool
         Value::Names(names) => is_set(other, names),
         Value::Pair(a, b) => match other {
             Value::Pair(c, d) => is_same(a, c) && is_same(b, d),
-            Value::Str(_) | Value::Int(_) | Value::Bool(_) | Value::Names(_) => false,
-            Value::Nothing | Value::Some(_) | Value::Table(_) => false,
+            _ => false,
         },
         Value::Nothing => is_nothing(other),
         Value::Some(a) => match other {
             Value::Some(b) => is_same(a, b),
-            Value::Str(_) | Value::Int(_) | Value::Bool(_) | Value::Names(_) => false,
-            Value::Pair(_, _) | Value::Nothing | Value::Table(_) => false,
+            _ => false,
         },
         Value::Table(rows) => match other {
             Value::Table(others) => {
                 rows.keys() == others.keys() && are_same(rows.values(), others.values())
             }
-            Value::Str(_) | Value::Int(_) | Value::Bool(_) | Value::Names(_) => false,
-            Value::Pair(_, _) | Value::Nothing | Value::Some(_) => false,
+            _ => false,
         },
     }
 }
@@ -73,8 +70,7 @@ fn is_integer(value: &Value, n: i64) -> bool
 {
     match value {
         Value::Int(other) => n == *other,
-        Value::Str(_) | Value::Bool(_) | Value::Names(_) => false,
-        Value::Pair(_, _) | Value::Nothing | Value::Some(_) | Value::Table(_) => false,
+        _ => false,
     }
 }
 
@@ -101,7 +97,6 @@ fn is_nothing(value: &Value) -> bool
 {
     match value {
         Value::Nothing => true,
-        Value::Str(_) | Value::Int(_) | Value::Bool(_) | Value::Names(_) => false,
-        Value::Pair(_, _) | Value::Some(_) | Value::Table(_) => false,
+        _ => false,
     }
 }
