@@ -1,5 +1,5 @@
 -- When a mark stands at the front of bytes.
-use Rattle.std.proofs.Common.{◌≡◌, ℕ, ◌<◌, ◌≤◌, cond, eqb, ◌⊎◌, inl, inr, Option, Some, None, List, [], ◌∷◌, ◌++◌, length, take, drop, get_or, refl, sym, ap, ◌∙◌, subst, arith}
+use Rattle.std.proofs.Common.{◌≡◌, ℕ, ◌<◌, ◌≤◌, true, cond, eqb, ◌⊎◌, inl, inr, Option, Some, None, List, [], ◌∷◌, ◌++◌, length, take, drop, get_or, refl, sym, ap, ◌∙◌, subst, arith}
 use Rattle.std.proofs.lemmas.Bool.{cond-true, cond-false, eqb-true, cases_Bool}
 use Rattle.fx_lex.specs.declared.token.Token.TheVariants as token
 use Rattle.fx_lex.specs.declared.token.Mark.{Mark}
@@ -113,3 +113,25 @@ other_not_twice bytes differs = record { none = λ b more e. absurd (differs (ap
 
 pub unknown_not_twice : (bytes : List ℕ) → mark_of_two (get_or bytes 0 0) ≡ None → IsNotTwice bytes
 unknown_not_twice bytes none = record { none = λ b more e. ap mark_of_two (sym (ap (λ l. get_or l 0 0) e)) ∙ none }
+
+no_mark : (b k : ℕ) (mark : Mark) → eqb b k ≡ true → mark_of_one k ≡ Some mark → mark_of_one b ≡ None → ⊥
+no_mark b k mark is some none =
+    let both : Some mark ≡ None = sym some ∙ ap mark_of_one (sym (eqb-true b k is)) ∙ none in
+    absurd cc
+
+-- a byte that is no mark alone is none twice
+two_of_one : (b : ℕ) → mark_of_one b ≡ None → mark_of_two b ≡ None
+two_of_one b none =
+    elim (cases_Bool (eqb b 58)) [
+      | inl is ↦ absurd (no_mark b 58 Colon is refl none)
+      | inr first ↦ cond-false (eqb b 58) _ _ first ∙ elim (cases_Bool (eqb b 61)) [
+        | inl is ↦ absurd (no_mark b 61 Equal is refl none)
+        | inr second ↦ cond-false (eqb b 61) _ _ second ∙ elim (cases_Bool (eqb b 43)) [
+          | inl is ↦ absurd (no_mark b 43 Plus is refl none)
+          | inr third ↦ cond-false (eqb b 43) _ _ third
+        ]
+      ]
+    ]
+
+pub none_here : (bytes : List ℕ) → 0 < length bytes → byte_kind (get_or bytes 0 0) ≡ 5 → mark_of_one (get_or bytes 0 0) ≡ None → HasNoPiece bytes
+none_here bytes some kind none = mark_none bytes some kind (unknown_not_twice bytes (two_of_one (get_or bytes 0 0) none)) none

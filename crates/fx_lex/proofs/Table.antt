@@ -1,19 +1,44 @@
 -- What the kind of a byte tells, and the table of kinds.
-use Rattle.std.proofs.Common.{◌≡◌, ℕ, ◌<◌, ◌≤◌, Bool, true, false, not, cond, eqb, map, get_or, refl, sym, ap, ◌∙◌, arith}
+use Rattle.std.proofs.Common.{◌≡◌, ℕ, ◌<◌, ◌≤◌, Bool, true, false, not, cond, eqb, Option, Some, None, map, get_or, refl, sym, ap, ◌∙◌, subst, arith}
 use Rattle.std.specs.List.{range_with_len}
 use Rattle.std.proofs.lemmas.Bool.{eqb-true}
 use Rattle.std.proofs.lemmas.List.FromFn.{get_or-map-range_with_len}
 use Rattle.fx_expr.specs.Bytes.{begins_word, is_word_byte}
+use Rattle.fx_lex.specs.declared.token.Mark.{Mark}
+use Rattle.fx_lex.specs.declared.byte.Kind.{Kind}
+use Rattle.fx_lex.specs.declared.byte.Kind.TheVariants as kind
 use Rattle.fx_lex.specs.declared.byte.TheConstants.{KINDS, WORD_BYTES}
 use Rattle.fx_lex.specs.Spelling.{is_digit}
 use Rattle.fx_lex.specs.Reading.{is_blank}
-use Rattle.fx_lex.specs.Kinds.{byte_kind}
+use Rattle.fx_lex.specs.Kinds.{byte_kind, IsKind, IsKindOf}
+use Rattle.fx_lex.specs.Marks.{mark_of_one}
 
-kinds_are : map byte_kind (range_with_len 0 256) ≡ KINDS
+abbrev of_mark : Option Mark → Kind
+of_mark (Some mark) = kind.Mark mark
+of_mark None = kind.Nothing
+
+abbrev begins : ℕ → Kind
+begins b =
+    cond (is_blank b) kind.Blank (cond (eqb b 35) kind.Comment (cond (begins_word b) kind.Word (cond (is_digit b) kind.Number (cond (eqb b 34) kind.Quote (of_mark (mark_of_one b))))))
+
+kinds_are : map begins (range_with_len 0 256) ≡ KINDS
 kinds_are = refl
 
-pub kind_at : (b : ℕ) → b < 256 → get_or KINDS b 0 ≡ byte_kind b
-kind_at b below = ap (λ l. get_or l b 0) (sym kinds_are) ∙ get_or-map-range_with_len byte_kind 0 256 b b 0 below (omega arith)
+-- the first of the tests that holds gives the kind and its number
+picked : (p q r s t : Bool) (m : Option Mark)
+    → IsKind (cond p 0 (cond q 1 (cond r 2 (cond s 3 (cond t 4 5))))) m (cond p kind.Blank (cond q kind.Comment (cond r kind.Word (cond s kind.Number (cond t kind.Quote (of_mark m))))))
+picked true q r s t m = refl
+picked false true r s t m = refl
+picked false false true s t m = refl
+picked false false false true t m = refl
+picked false false false false true m = refl
+picked false false false false false (Some mark) = (refl, refl)
+picked false false false false false None = (refl, refl)
+
+pub kind_at : (b : ℕ) → b < 256 → IsKindOf b (get_or KINDS b kind.Blank)
+kind_at b below =
+    let row : get_or KINDS b kind.Blank ≡ begins b = ap (λ l. get_or l b kind.Blank) (sym kinds_are) ∙ get_or-map-range_with_len begins 0 256 b b kind.Blank below (omega arith) in
+    subst (λ k. IsKindOf b k) (sym row) (picked (is_blank b) (eqb b 35) (begins_word b) (is_digit b) (eqb b 34) (mark_of_one b))
 
 -- the bytes of a word
 words_are : map (λ b. cond (is_word_byte b) 1 0) (range_with_len 0 256) ≡ WORD_BYTES

@@ -1,11 +1,12 @@
-ghost use Rattle.std.specs.Prelude.{◌≡◌, ◌<◌, true, length, slice_index};
+ghost use Rattle.std.specs.Prelude.{◌≡◌, ◌<◌, true, Some, length, slice_index};
 ghost use Rattle.fx_expr.specs.Bytes.{has_word_start};
 ghost use Rattle.fx_lex.specs.Spelling.{is_digit};
 ghost use Rattle.fx_lex.specs.Kinds.{byte_kind};
+ghost use Rattle.fx_lex.specs.Marks.{mark_of_one};
 ghost use Rattle.fx_lex.specs.Found.{IsFoundAt};
 
-use crate::byte::{BLANK, COMMENT, NUMBER, STRING, WORD, digits_len, kind_of, line_len, word_len};
-use crate::mark::{mark_of_one, mark_of_two};
+use crate::byte::{Kind, digits_len, kind_of, line_len, word_len};
+use crate::mark::mark_of_two;
 use crate::number::number_of;
 use crate::token::Mark;
 use fx_expr::WORD_LIMIT;
@@ -49,10 +50,11 @@ fn number_at(bytes: &[u8]) -> Found
     }
 }
 
-/// The mark at the front, where nothing else can begin.
-fn mark_at(bytes: &[u8]) -> Found
+/// The mark at the front, whose first byte is a mark alone.
+fn mark_at(bytes: &[u8], alone: Mark) -> Found
     requires some { 0 < length bytes.now }
     requires kind { byte_kind (slice_index bytes.now 0) ≡ 5 }
+    requires mark { mark_of_one (slice_index bytes.now 0) ≡ Some alone }
     ensures { IsFoundAt bytes.now result }
 {
     let first = bytes[0];
@@ -61,10 +63,7 @@ fn mark_at(bytes: &[u8]) -> Found
             return Found::Mark(mark, 2);
         }
     }
-    match mark_of_one(first) {
-        Some(mark) => Found::Mark(mark, 1),
-        None => Found::Nothing,
-    }
+    Found::Mark(alone, 1)
 }
 
 /// What stands at the front: a gap, the longest token, or neither. A call would write the answer to memory first.
@@ -74,11 +73,12 @@ pub(crate) fn found_at(bytes: &[u8]) -> Found
     ensures { IsFoundAt bytes.now result }
 {
     match kind_of(bytes[0]) {
-        BLANK => Found::Gap(1),
-        COMMENT => Found::Gap(line_len(bytes)),
-        WORD => word_at(bytes),
-        NUMBER => number_at(bytes),
-        STRING => Found::Quote,
-        _ => mark_at(bytes),
+        Kind::Blank => Found::Gap(1),
+        Kind::Comment => Found::Gap(line_len(bytes)),
+        Kind::Word => word_at(bytes),
+        Kind::Number => number_at(bytes),
+        Kind::Quote => Found::Quote,
+        Kind::Mark(mark) => mark_at(bytes, mark),
+        Kind::Nothing => Found::Nothing,
     }
 }
