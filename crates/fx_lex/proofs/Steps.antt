@@ -1,11 +1,10 @@
 -- A reading goes on by one piece.
-use Rattle.std.proofs.Common.{◌≡◌, ℕ, ◌+◌, ◌≤◌, ◌<◌, ◌⊎◌, inl, inr, get_or, List, [], ◌∷◌, ◌++◌, length, drop, take, refl, sym, ap, ◌∙◌, subst, arith, append_assoc, length-append}
+use Rattle.std.proofs.Common.{◌≡◌, ℕ, ◌+◌, ◌≤◌, ◌<◌, List, [], ◌∷◌, ◌++◌, length, drop, take, refl, sym, ap, ◌∙◌, subst, arith, append_assoc, length-append}
 use Rattle.std.specs.List.{flat_map}
-use Rattle.std.proofs.lemmas.List.{flat_map_more, drop-drop, drop_all, drop_more, take-append-drop, length-take-le, length-drop, length_push}
+use Rattle.std.proofs.lemmas.List.{flat_map_more, drop-drop, drop_all, take-append-drop, length-take-le, length-drop, length_push}
 use Rattle.fx_lex.specs.declared.token.Token.{Token}
 use Rattle.fx_lex.specs.declared.token.Spanned.{Spanned}
-use Rattle.fx_lex.specs.Reading.{is_blank, IsGap, StandsAt, Piece, Gap, Lexeme, piece_bytes, IsPiece, ArePieces, spans, Reads, AreTokensOf, HasNoPiece, IsBadAt}
-use Rattle.fx_lex.proofs.Gaps.{blank_found}
+use Rattle.fx_lex.specs.Reading.{IsGap, StandsAt, Piece, Gap, Lexeme, piece_bytes, IsPiece, ArePieces, spans, Reads, AreTokensOf, HasNoPiece, IsBadAt}
 
 pieces_push : (ps : List Piece) (p : Piece) (more : List ℕ) → ArePieces ps (piece_bytes p ++ more) → IsPiece p more → ArePieces (ps ++ p ∷ []) more
 pieces_push [] p more a h = (h, tt)
@@ -75,16 +74,6 @@ pub steps_on : (text : List ℕ) (place n : ℕ) (tokens : List Spanned) (t : To
 steps_on text place n tokens t r low few here more pushed =
     let grown : length more ≡ length tokens + 1 = ap length pushed ∙ length_push tokens _ in
     (subst (λ l. Reads text (place + n) (drop (place + n) text) l) (sym pushed) (steps_token text place n tokens r here.1 t here.2), omega (arith, here.1, length-drop place text, low), omega (arith, here.0, few, grown))
-
--- behind a space, or where it was
-pub steps_space : (text : List ℕ) (place n : ℕ) (tokens : List Spanned) → Reads text place (drop place text) tokens → place ≤ length text
-    → (n ≡ place) ⊎ ((n ≡ place + 1) × (place < length text) × (get_or text place 0 ≡ 32))
-    → Reads text n (drop n text) tokens × (n ≤ length text)
-steps_space text place n tokens r low (inl same) = (subst (λ m. Reads text m (drop m text) tokens) (sym same) r, omega (arith, same, low))
-steps_space text place n tokens r low (inr space) =
-    let first : get_or (drop place text) 0 0 ≡ 32 = ap (λ l. get_or l 0 0) (drop_more text place 0 space.1) ∙ space.2 in
-    let found = blank_found (drop place text) (omega (arith, space.1, length-drop place text)) (ap is_blank first) in
-    (subst (λ m. Reads text m (drop m text) tokens) (sym space.0) (steps_gap text place 1 tokens r found.1 found.2), omega (arith, space.0, space.1))
 
 -- at the end of the text
 pub reads_end : (text : List ℕ) (place : ℕ) (tokens : List Spanned) → Reads text place (drop place text) tokens → place ≤ length text → length text ≤ place → AreTokensOf text tokens

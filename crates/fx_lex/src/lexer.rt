@@ -1,4 +1,4 @@
-ghost use Rattle.std.specs.Prelude.{◌≡◌, ℕ, ◌+◌, ◌<◌, ◌≤◌, ◌⊎◌, List, length, slice_index, IfOk, IfErr, IsErrAnd};
+ghost use Rattle.std.specs.Prelude.{◌≡◌, ℕ, ◌≤◌, ◌⊎◌, List, length, IfOk, IfErr, IsErrAnd};
 ghost use Rattle.fx_base.specs.Limits.{source_limit};
 ghost use Rattle.fx_lex.specs.declared.token.Spanned.{Spanned};
 ghost use Rattle.fx_lex.specs.declared.token.Token.TheVariants as token;
@@ -39,7 +39,7 @@ pub fn lex(alloc: Global, text: &[u8]) -> Result<Tokens, LexFault>
             Found::Word(len) => {
                 let word = Word::cut(&shared, at, at + len)?;
                 items.push_reserved(spanned(Token::Word(word), at, at + len));
-                at = past_space(text, at + len);
+                at += len;
             }
             Found::Number(number, len) => {
                 items.push_reserved(spanned(Token::Number(number), at, at + len));
@@ -60,20 +60,6 @@ pub fn lex(alloc: Global, text: &[u8]) -> Result<Tokens, LexFault>
         }
     }
     Ok(Tokens::of(items, text.len() as u32))
-}
-
-/// The place behind a space that stands at this one, or this one. So a word takes the space behind it along.
-fn past_space(text: &[u8], at: usize) -> usize
-    ensures on { at ≤ result }
-    ensures space { (result ≡ at)
-        ⊎ ((result ≡ at + 1) × (at < length text.now) × (slice_index text.now at ≡ 32)) }
-{
-    if at < text.len() {
-        if text[at] == b' ' {
-            return at + 1;
-        }
-    }
-    at
 }
 
 /// The token that stands in the text from `start` up to `stop`. A call would copy the token once more.

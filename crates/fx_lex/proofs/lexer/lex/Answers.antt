@@ -9,7 +9,7 @@ use Rattle.fx_lex.specs.declared.token.Token.TheVariants as token
 use Rattle.fx_lex.specs.declared.token.LexFault.TheVariants.{BadToken}
 use Rattle.fx_lex.specs.Reading.{AreTokensOf, IsBadAt}
 use Rattle.fx_lex.specs.Found.{IsFoundAt, IsStringAt}
-use Rattle.fx_lex.proofs.Steps.{steps_gap, steps_on, steps_space, reads_end, reads_bad}
+use Rattle.fx_lex.proofs.Steps.{steps_gap, steps_on, reads_end, reads_bad}
 use Rattle.fx_lex.proofs.Stands.{word_place}
 use Rattle.fx_lex.proofs.Unique.{tokens_unique, place_unique, tokens_exclude}
 use Rattle.fx_lex.proofs.lexer.lex.Goals as goal
@@ -60,8 +60,7 @@ loop-at-preserved-in-Word c =
     let cut : c.in_ok-word-in-Word.word ≡ take len (drop at text) = c.in_ok-word-in-Word.ensures ∙ ap (λ l. slice_range l at (at + len)) c.in_ok-shared.ensures.ok ∙ ap (λ m. take m (drop at text)) size in
     let pushed = c.push_reserved.ensures.items ∙ ap (λ s. c.loop-at.items.items ++ s ∷ []) c.spanned.ensures ∙ ap (λ w. c.loop-at.items.items ++ record { token = token.Word w; start = at; stop = at + len } ∷ []) cut in
     let next = steps_on text at len c.loop-at.items.items (token.Word (take len (drop at text))) c.loop-at.invariant.reads c.loop-at.invariant.within c.loop-at.invariant.few here _ pushed in
-    let past = steps_space text (at + len) c.past_space-at.result _ next.0 next.1 c.past_space-at.ensures.space in
-    record { reads = past.0; within = past.1; few = omega (arith, next.2, c.past_space-at.ensures.on); room = omega (arith, c.loop-at.invariant.room, c.push_reserved.ensures.capacity) }
+    record { reads = next.0; within = next.1; few = next.2; room = omega (arith, c.loop-at.invariant.room, c.push_reserved.ensures.capacity) }
 
 pub loop-at-preserved-in-Mark : goal.loop-at-preserved-in-Mark
 loop-at-preserved-in-Mark c =
