@@ -1,7 +1,7 @@
 -- Where moves lead from a place, form by form.
 use Rattle.fx_steps.proofs.Prelude.{ReadList, ◌≡◌, ℕ, ◌+◌, ◌≤◌, true, List, [], ◌∷◌, take, Option, Some, None, Result, Ok, Err, refl, sym, ap, ◌∙◌, subst, arith, IsErrAnd, IfOk, Known, Ask, Answer, Tick, Outcome, eval_of, names_in, ExprTree}
 use Rattle.fx_steps.proofs.Prelude.{has_text, ShapeTree, Refusal, Bindings, arguments, argument_evals, behind, Answered, element, chosen, with_arguments, go_into, Step, Body, Elem, Address, lead, SpecTree, Stop, err_of, Halt, answered, split}
-use Rattle.fx_steps.proofs.Prelude.{Entry, Spot, LeadsToSpot, LeadsAt, Enters, EntersAt, Chooses, BindsNames, step_tree, told, costs, Says, set_answer, names_answer, arguments_tried, inner_names, Meaning, known_of, Session}
+use Rattle.fx_steps.proofs.Prelude.{Entry, Spot, LeadsToSpot, LeadsAt, Enters, EntersAt, Chooses, BindsNames, step_tree, told, costs, Says, set_answer, names_answer, arguments_tried, inner_names, Meaning, known_of, Session, IsSetOf}
 use Rattle.fx_view.specs.declared.reader.Stop.TheVariants as stop
 use Rattle.fx_session.specs.declared.halt.Halt.TheVariants as halt
 use Rattle.fx_steps.proofs.Arguments.{told_behind, costs_behind, with_names, without_names, with_all, with_fault}

@@ -40,7 +40,7 @@ pub use Rattle.fx_view.specs.Reads.{known_of}
 pub use Rattle.fx_view.specs.declared.reader.Stop.{Stop}
 pub use Rattle.fx_session.specs.Arguments.{HaveShapes, inner_names, with_each}
 pub use Rattle.fx_session.specs.Scopes.{HasScope}
-pub use Rattle.fx_steps.specs.Around.{HasSet, around}
+pub use Rattle.fx_steps.specs.Around.{HasSet, IsSetOf, around}
 pub use Rattle.fx_steps.specs.Frames.{are_told, around_last, last_caller, last_set, last_step, path_of}
 pub use Rattle.fx_steps.specs.Parts.{IsNoCall, IsNoOption, child, part}
 pub use Rattle.fx_steps.specs.Spots.{BindsNames, BindsText, Chooses, Enters, EntersAt, IsSpot, LeadsAt, LeadsTo, LeadsToSpot, bound_name, caller_in, grown, spot_place}

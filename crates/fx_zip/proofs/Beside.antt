@@ -8,6 +8,7 @@ use Rattle.fx_zip.proofs.Prelude.{Session, own_at}
 use Rattle.fx_view.specs.declared.reader.Stop.TheVariants as stop
 use Rattle.fx_session.specs.declared.halt.Halt.TheVariants as halt
 use Rattle.fx_steps.specs.declared.frame.Bound.TheVariants as bounds
+use Rattle.fx_steps.proofs.Consulting.{by_all}
 use Rattle.fx_steps.proofs.Entering.{leads_at, leads_step}
 use Rattle.fx_steps.proofs.Leads.{first_leads, element_leads, grown_is, front_last}
 use Rattle.fx_zip.proofs.Standing.{found_place, stands_settled, stands_left, stands_entered, left_settled}
