@@ -93,6 +93,3 @@ number_told b = (all_told b).3
 
 pub string_told : (b : ℕ) → byte_kind b ≡ 4 → b ≡ 34
 string_told b e = eqb-true b 34 ((all_told b).4 e)
-
-pub mark_told : (b : ℕ) → 5 ≤ byte_kind b → byte_kind b ≡ 5
-mark_told b e = omega (arith, e, (all_told b).5)
