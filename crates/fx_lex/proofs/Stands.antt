@@ -48,10 +48,6 @@ word_start b bytes h =
     let starts = run_starts is_word_byte b bytes (or_left _ _ h) in
     (subst (λ l. has_word_start l ≡ true) (sym starts) h, run_passes is_word_byte (b ∷ bytes))
 
-pub word_run : (bytes : List ℕ) → has_word_start bytes ≡ true → IsWordRun (take_while is_word_byte bytes) × (0 < prefix_len is_word_byte bytes)
-word_run [] h = absurd (false≢true h)
-word_run (b ∷ bytes) h = (word_start b bytes h, run_some is_word_byte b bytes (or_left _ _ h))
-
 -- the run of a word goes on behind its first byte
 pub word_more : (bytes : List ℕ) (n : ℕ) → has_word_start bytes ≡ true → n ≡ prefix_len is_word_byte (drop 1 bytes) → 1 + n ≡ prefix_len is_word_byte bytes
 word_more [] n h e = absurd (false≢true h)

@@ -1,5 +1,5 @@
 -- What the kind of a byte tells, and the table of kinds.
-use Rattle.std.proofs.Common.{◌≡◌, ℕ, ◌<◌, ◌≤◌, Bool, true, false, not, cond, eqb, Option, Some, None, map, get_or, refl, sym, ap, ◌∙◌, subst, arith}
+use Rattle.std.proofs.Common.{◌≡◌, ℕ, ◌<◌, ◌≤◌, Bool, true, false, not, cond, eqb, Option, Some, None, List, map, get_or, refl, sym, ap, ◌∙◌, subst, arith}
 use Rattle.std.specs.List.{range_with_len}
 use Rattle.std.proofs.lemmas.Bool.{eqb-true}
 use Rattle.std.proofs.lemmas.List.FromFn.{get_or-map-range_with_len}
@@ -8,6 +8,8 @@ use Rattle.fx_lex.specs.declared.token.Mark.{Mark}
 use Rattle.fx_lex.specs.declared.byte.Kind.{Kind}
 use Rattle.fx_lex.specs.declared.byte.Kind.TheVariants as kind
 use Rattle.fx_lex.specs.declared.byte.TheConstants.{KINDS, WORD_BYTES}
+use Rattle.fx_lex.specs.declared.string.TheConstants.{PLAIN_BYTES}
+use Rattle.fx_lex.specs.Items.{is_plain}
 use Rattle.fx_lex.specs.Spelling.{is_digit}
 use Rattle.fx_lex.specs.Reading.{is_blank}
 use Rattle.fx_lex.specs.Kinds.{byte_kind, IsKind, IsKindOf}
@@ -40,18 +42,27 @@ kind_at b below =
     let row : get_or KINDS b kind.Blank ≡ begins b = ap (λ l. get_or l b kind.Blank) (sym kinds_are) ∙ get_or-map-range_with_len begins 0 256 b b kind.Blank below (omega arith) in
     subst (λ k. IsKindOf b k) (sym row) (picked (is_blank b) (eqb b 35) (begins_word b) (is_digit b) (eqb b 34) (mark_of_one b))
 
--- the bytes of a word
-words_are : map (λ b. cond (is_word_byte b) 1 0) (range_with_len 0 256) ≡ WORD_BYTES
-words_are = refl
-
-pub word_byte_at : (b : ℕ) → b < 256 → not (eqb (get_or WORD_BYTES b 0) 0) ≡ is_word_byte b
-word_byte_at b below =
-    let row : get_or WORD_BYTES b 0 ≡ cond (is_word_byte b) 1 0 = ap (λ l. get_or l b 0) (sym words_are) ∙ get_or-map-range_with_len (λ b. cond (is_word_byte b) 1 0) 0 256 b b 0 below (omega arith) in
-    ap (λ n. not (eqb n 0)) row ∙ marked (is_word_byte b)
+-- a table that has 1 for each byte that passes a test
+test_at : (p : ℕ → Bool) (table : List ℕ) → map (λ b. cond (p b) 1 0) (range_with_len 0 256) ≡ table → (b : ℕ) → b < 256 → not (eqb (get_or table b 0) 0) ≡ p b
+test_at p table same b below =
+    let row : get_or table b 0 ≡ cond (p b) 1 0 = ap (λ l. get_or l b 0) (sym same) ∙ get_or-map-range_with_len (λ b. cond (p b) 1 0) 0 256 b b 0 below (omega arith) in
+    ap (λ n. not (eqb n 0)) row ∙ marked (p b)
   where
     marked : (t : Bool) → not (eqb (cond t 1 0) 0) ≡ t
     marked true = refl
     marked false = refl
+
+words_are : map (λ b. cond (is_word_byte b) 1 0) (range_with_len 0 256) ≡ WORD_BYTES
+words_are = refl
+
+pub word_byte_at : (b : ℕ) → b < 256 → not (eqb (get_or WORD_BYTES b 0) 0) ≡ is_word_byte b
+word_byte_at = test_at is_word_byte WORD_BYTES words_are
+
+plain_are : map (λ b. cond (is_plain b) 1 0) (range_with_len 0 256) ≡ PLAIN_BYTES
+plain_are = refl
+
+pub plain_byte_at : (b : ℕ) → b < 256 → not (eqb (get_or PLAIN_BYTES b 0) 0) ≡ is_plain b
+plain_byte_at = test_at is_plain PLAIN_BYTES plain_are
 
 -- the first of the tests that holds gives the kind
 abbrev Tells : ℕ → Bool → Bool → Bool → Bool → Bool → Type 0
@@ -82,6 +93,3 @@ number_told b = (all_told b).3
 
 pub string_told : (b : ℕ) → byte_kind b ≡ 4 → b ≡ 34
 string_told b e = eqb-true b 34 ((all_told b).4 e)
-
-pub mark_told : (b : ℕ) → 5 ≤ byte_kind b → byte_kind b ≡ 5
-mark_told b e = omega (arith, e, (all_told b).5)
