@@ -1,5 +1,5 @@
 -- Steps that consult the filestore: inside an entry.
-use Rattle.fx_steps.proofs.Prelude.{◌≡◌, ℕ, Bool, true, false, cond, List, ◌∷◌, length, take, Option, Some, None, option_map, Result, Ok, Err, refl, sym, ap, ◌∙◌, subst, IsErrAnd, Ask, Answer, ◌>>=◌, has_text, Refusal}
+use Rattle.fx_steps.proofs.Prelude.{◌≡◌, ℕ, Bool, true, false, cond, List, [], ◌∷◌, length, take, Option, Some, None, option_map, Result, Ok, Err, refl, sym, ap, ◌∙◌, subst, IsErrAnd, Ask, Answer, ◌>>=◌, has_text, Refusal}
 use Rattle.fx_steps.proofs.Prelude.{Bindings, exists, Answered, go_into, Inside, Address, PlaceTree, placed, where_true, SpecTree, Stop, Meaning, err_of, Halt, Entry, Spot, IsNoOption, grown, spot_place}
 use Rattle.fx_steps.proofs.Prelude.{LeadsTo, Enters, step_tree, Implements, then_answers, then_refused, stops, answers, Session, own_at, ReadList, Known, Found, follow, known_of}
 use Rattle.fx_view.specs.declared.reader.Stop.TheVariants as stop
