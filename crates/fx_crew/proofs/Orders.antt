@@ -1,14 +1,12 @@
 -- Which entries of an order are a shell's.
-use Rattle.std.proofs.Common.{◌≡◌, ℕ, ◌+◌, ◌<◌, ◌≤◌, List, ◌++◌, length, sym, subst, arith, length-append}
+use Rattle.std.proofs.Common.{◌≡◌, ℕ, ◌<◌, ◌≤◌, List, length, sym, subst, arith}
 use Rattle.std.specs.List.{Contains, sum_by}
-use Rattle.std.proofs.lemmas.List.Elements.{filter_map-append}
 use Rattle.fx_spec.specs.Plans.{Turn, count_of}
-use Rattle.fx_spec.specs.Order.{BaseTree, number_in, IsLegal, IsComplete}
+use Rattle.fx_spec.specs.Order.{BaseTree, IsLegal, IsComplete}
 use Rattle.fx_machine.specs.Machine.{next_number}
 use Rattle.fx_machine.proofs.Reached.{shell_within}
 use Rattle.fx_machine.proofs.Sums.{order_fits}
 use Rattle.fx_machine.proofs.Turns.{first_contains, has_turn, shells_within}
-use Rattle.fx_turn.specs.Histories.{Begins}
 
 -- a legal order is no longer than the plan
 pub legal_fits : (base : BaseTree) (o : List Turn) → IsLegal base o → length o ≤ sum_by length base.plan
