@@ -1,7 +1,7 @@
 //! The values of expressions over texts, integers and sets.
 ghost use Rattle.std.specs.Prelude.{[], IfOk};
 ghost use Rattle.fx_expr.specs.ShapeTree.{ShapeTree};
-ghost use Rattle.fx_expr.specs.Shapes.{HasShape, IsWellShaped};
+ghost use Rattle.fx_expr.specs.Shapes.{HasShape};
 ghost use Rattle.fx_expr.specs.Views.{expr_tree};
 
 use fx_base::NoMemory;
@@ -90,9 +90,24 @@ fn tell_result(
     }
 }
 
-/// Tells the value of an expression.
-fn tell_value(alloc: Global, expr: &Expr, out: &mut String) -> Result<(), NoMemory>
-    requires { IsWellShaped [] (expr_tree expr.now) }
+fn tell_str(alloc: Global, expr: &Expr, out: &mut String) -> Result<(), NoMemory>
+    requires { HasShape [] (expr_tree expr.now) ShapeTree.str }
+{
+    let env = Env::new(alloc);
+    let value = evaluated(alloc, expr, &env);
+    tell_result(alloc, value, out)
+}
+
+fn tell_int(alloc: Global, expr: &Expr, out: &mut String) -> Result<(), NoMemory>
+    requires { HasShape [] (expr_tree expr.now) ShapeTree.int }
+{
+    let env = Env::new(alloc);
+    let value = evaluated(alloc, expr, &env);
+    tell_result(alloc, value, out)
+}
+
+fn tell_names(alloc: Global, expr: &Expr, out: &mut String) -> Result<(), NoMemory>
+    requires { HasShape [] (expr_tree expr.now) ShapeTree.names }
 {
     let env = Env::new(alloc);
     let value = evaluated(alloc, expr, &env);
@@ -108,10 +123,10 @@ pub fn tell_form(
 ) -> Result<(), NoMemory> {
     let part = string(alloc, spelled)?;
     match form {
-        Form::Text => tell_value(alloc, &part, out),
-        Form::Size => tell_value(alloc, &Expr::Un(UnOp::Size, part), out),
-        Form::Int => tell_value(alloc, &Expr::Un(UnOp::Int, part), out),
-        Form::Lines => tell_value(alloc, &Expr::Un(UnOp::Lines, part), out),
+        Form::Text => tell_str(alloc, &part, out),
+        Form::Size => tell_int(alloc, &Expr::Un(UnOp::Size, part), out),
+        Form::Int => tell_int(alloc, &Expr::Un(UnOp::Int, part), out),
+        Form::Lines => tell_names(alloc, &Expr::Un(UnOp::Lines, part), out),
     }
 }
 
@@ -119,13 +134,13 @@ pub fn tell_form(
 pub fn tell_minus(alloc: Global, a: i64, b: i64, c: i64, out: &mut String) -> Result<(), NoMemory> {
     let first = minus(alloc, integer(alloc, a)?, b)?;
     let second = minus(alloc, first, c)?;
-    tell_value(alloc, &second, out)
+    tell_int(alloc, &second, out)
 }
 
 /// Tells the text of a number less another.
 pub fn tell_decimal(alloc: Global, a: i64, b: i64, out: &mut String) -> Result<(), NoMemory> {
     let part = minus(alloc, integer(alloc, a)?, b)?;
-    tell_value(alloc, &Expr::Un(UnOp::Text, part), out)
+    tell_str(alloc, &Expr::Un(UnOp::Text, part), out)
 }
 
 /// Tells the union of two sets without a third.
@@ -140,7 +155,7 @@ pub fn tell_sets(
     let second = set(alloc, b)?;
     let both = Box::new(alloc, Expr::Bin(BinOp::Union, first, second))?;
     let third = set(alloc, c)?;
-    tell_value(alloc, &Expr::Bin(BinOp::Without, both, third), out)
+    tell_names(alloc, &Expr::Bin(BinOp::Without, both, third), out)
 }
 
 /// Tells those of a set that a glob matches.
@@ -152,7 +167,7 @@ pub fn tell_only(
 ) -> Result<(), NoMemory> {
     let names = set(alloc, spelled)?;
     let glob = text(alloc, glob)?;
-    tell_value(alloc, &Expr::Only(names, glob), out)
+    tell_names(alloc, &Expr::Only(names, glob), out)
 }
 
 /// Tells whether a glob matches a text.
