@@ -5,14 +5,13 @@ use crate::run::tell_run;
 use crate::stage::Stage;
 use crate::telling::tell_tree;
 use fx_base::NoMemory;
-use std::alloc::Global;
 use std::fs::{self, File};
 use std::io::{self, PipeReader, Write};
 use std::os::fd::AsRawFd;
 use std::os::unix::fs::symlink;
 use std::sync::Wait;
 use std::thread::Threads;
-use test_lines::{Call, Case, number, split_word, tell};
+use test_lines::{Call, number, split_word, tell};
 
 /// What a line sets up.
 #[derive(Clone, Copy)]
@@ -144,24 +143,51 @@ fn run<T: Clone + Threads + Wait + Sync>(
     tell_run(&stage, out)
 }
 
-/// The machine, the threads of a run, and what the lines before have set up.
-#[derive(Drop)]
-pub struct Tried<'a, T> {
-    pub rt: &'a HostRuntime,
-    pub threads: &'a T,
-    pub before: &'a mut Before,
+/// Adds what a line gives.
+fn answer<T: Clone + Threads + Wait + Sync>(
+    rt: &HostRuntime,
+    threads: &T,
+    line: &str,
+    before: &mut Before,
+    out: &mut String,
+) -> Result<(), NoMemory> {
+    let (word, rest) = split_word(line);
+    match verb_of(word) {
+        None => tell(out, "no such word"),
+        Some(Verb::Note) => Ok(()),
+        Some(Verb::Set(setting)) => set_up(rt, setting, rest, before, out),
+        Some(Verb::Call(call)) => tell_call(rt, call, rest, out),
+        Some(Verb::Run) => run(rt, threads, rest, before, out),
+        Some(Verb::Tree) => tell_tree(rt, rest, out),
+    }
 }
 
-impl<T: Clone + Threads + Wait + Sync> Case for Tried<'_, T> {
-    fn answer(&mut self, _alloc: Global, line: &str, out: &mut String) -> Result<(), NoMemory> {
-        let (word, rest) = split_word(line);
-        match verb_of(word) {
-            None => tell(out, "no such word"),
-            Some(Verb::Note) => Ok(()),
-            Some(Verb::Set(setting)) => set_up(self.rt, setting, rest, self.before, out),
-            Some(Verb::Call(call)) => tell_call(self.rt, call, rest, out),
-            Some(Verb::Run) => run(self.rt, self.threads, rest, self.before, out),
-            Some(Verb::Tree) => tell_tree(self.rt, rest, out),
+/// Adds a line and what it gives.
+fn add_answered<T: Clone + Threads + Wait + Sync>(
+    rt: &HostRuntime,
+    threads: &T,
+    line: &str,
+    before: &mut Before,
+    out: &mut String,
+) -> Result<(), NoMemory> {
+    out.push_str(line)?;
+    out.push_str("\n")?;
+    answer(rt, threads, line, before, out)
+}
+
+/// Adds the lines that begin with no `>`, each with what it gives. The threads of a run are apart from the machine, since
+/// what a thread is sent may rest on no bound of an `impl`: so these lines are no [`test_lines::Case`].
+pub fn add_answers<T: Clone + Threads + Wait + Sync>(
+    rt: &HostRuntime,
+    threads: &T,
+    cases: &str,
+    before: &mut Before,
+    out: &mut String,
+) -> Result<(), NoMemory> {
+    for line in cases.lines() {
+        if !line.starts_with('>') {
+            add_answered(rt, threads, line, before, out)?;
         }
     }
+    Ok(())
 }

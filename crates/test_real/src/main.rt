@@ -10,10 +10,9 @@ mod run;
 mod stage;
 mod telling;
 
-use cases::{Before, Tried};
+use cases::{Before, add_answers};
 use std::io;
 use std::io::ErrorKind;
-use test_lines::add_answers;
 
 fn main(rt: HostRuntime) -> io::Result<()> {
     let alloc = rt.alloc();
@@ -23,12 +22,7 @@ fn main(rt: HostRuntime) -> io::Result<()> {
         pipe: None,
         room: u64::MAX,
     };
-    let mut tried = Tried {
-        rt: &rt,
-        threads: &rt,
-        before: &mut before,
-    };
-    match add_answers(alloc, &mut tried, cases.as_str(), &mut answers) {
+    match add_answers(&rt, &rt, cases.as_str(), &mut before, &mut answers) {
         Ok(()) => rt.print(answers),
         Err(fx_base::NoMemory) => Err(io::Error::from(ErrorKind::OutOfMemory)),
     }
