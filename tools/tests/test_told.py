@@ -7,7 +7,7 @@ import tempfile
 import unittest
 from unittest import mock
 
-from txforest import apply, calls, picture, place, schedules
+from txforest import apply, calls, log, picture, place, schedules
 from txforest.do import hint_of
 from txforest.statuses import Failed, Status
 
@@ -49,6 +49,15 @@ class Told(unittest.TestCase):
         with self.assertRaises(OSError) as caught:
             picture.written("missing/p.svg", b"")
         self.assertEqual(caught.exception.filename, "missing/p.svg")
+
+    def test_a_log_that_cant_be_written_is_told_once(self) -> None:
+        os.mkdir("log")
+        with mock.patch("txforest.log.tell") as told:
+            for _ in range(2):  # a commit writes the line, and the end of a job looks for it again
+                log.put_line(b"log", b"do-1", b"now", b"0", b"tree")
+            self.assertEqual(told.call_count, 1)
+            log.put_line(b"log", b"do-2", b"now", b"0", b"tree")
+            self.assertEqual(told.call_count, 2)
 
     def test_where_no_place_can_be_made_the_folder_is_told(self) -> None:
         refused = PermissionError(13, "Permission denied")
