@@ -3,6 +3,9 @@
 from __future__ import annotations
 
 import os
+import signal
+import subprocess
+import sys
 import tempfile
 import unittest
 from unittest import mock
@@ -10,6 +13,19 @@ from unittest import mock
 from txforest import apply, calls, log, picture, place, schedules
 from txforest.do import hint_of
 from txforest.statuses import Failed, Status
+
+TOOLS = os.path.dirname(os.path.dirname(os.path.abspath(__file__)))
+INTERRUPTED = """
+import os, runpy, sys
+
+class Interrupts:
+    def find_spec(self, name, path=None, target=None):
+        if name == "txforest.statuses":
+            os.kill(os.getpid(), 2)
+
+sys.meta_path.insert(0, Interrupts())
+runpy.run_path(sys.argv.pop(), run_name="__main__")
+"""
 
 
 class Told(unittest.TestCase):
@@ -81,6 +97,14 @@ class Told(unittest.TestCase):
             self.assertEqual(hint_of("job", missing), "")
             self.assertEqual(hint_of("/nothing/job", missing), "")
             self.assertIn("#!", hint_of("../job", OSError(8, "Exec format error")))
+
+    def test_an_interrupt_while_a_tool_loads_is_no_traceback(self) -> None:
+        tools = sorted(name for name in os.listdir(TOOLS) if name.startswith("txforest-"))
+        self.assertEqual(len(tools), 8)
+        for name in tools:
+            words = [sys.executable, "-IS", "-c", INTERRUPTED, os.path.join(TOOLS, name)]
+            ran = subprocess.run(words, capture_output=True, text=True, timeout=60, check=False)
+            self.assertEqual((name, ran.returncode, ran.stderr), (name, -signal.SIGINT, ""))
 
 
 if __name__ == "__main__":
