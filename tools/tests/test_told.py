@@ -10,7 +10,7 @@ import tempfile
 import unittest
 from unittest import mock
 
-from txforest import apply, calls, log, picture, place, schedules
+from txforest import apply, calls, log, picture, place, program, schedules
 from txforest.do import hint_of
 from txforest.statuses import Failed, Status
 
@@ -97,6 +97,22 @@ class Told(unittest.TestCase):
             self.assertEqual(hint_of("job", missing), "")
             self.assertEqual(hint_of("/nothing/job", missing), "")
             self.assertIn("#!", hint_of("../job", OSError(8, "Exec format error")))
+
+    def test_an_interrupt_behind_the_end_of_the_program_is_told_as_one(self) -> None:
+        told = os.memfd_create("told")
+        self.addCleanup(os.close, told)
+        reading, writing = os.pipe()
+        pid = program.started(["true"], writing, told, ())
+        wait = os.waitpid
+
+        def interrupted(child: int, options: int) -> tuple[int, int]:
+            found = wait(child, options)
+            if options == 0:
+                raise SystemExit(130)
+            return found
+
+        with mock.patch("os.waitpid", interrupted), self.assertRaises(SystemExit):
+            program.answer_of("true", pid, reading, told, False)
 
     def test_an_interrupt_while_a_tool_loads_is_no_traceback(self) -> None:
         tools = sorted(name for name in os.listdir(TOOLS) if name.startswith("txforest-"))
