@@ -109,7 +109,8 @@ class Job:
         if self.settle and self.operands:
             raise Failed(Status.USAGE, "--settle takes TREE alone")
         if len(self.operands) < 2 and not self.settle and (self.operands or not self.list):
-            raise Failed(Status.USAGE, f"usage: {USAGE}")
+            line = "SPEC and a SCRIPT are needed behind the tree"
+            raise Failed(Status.USAGE, line, f"usage: {USAGE}", "--help tells more")
 
 
 def only_of(patterns: list[str]) -> Only | None:

@@ -237,9 +237,9 @@ class Command:
                 execute(self.words)
             except FileNotFoundError as error:
                 status = NOT_FOUND
-                tell(f"{shown(self.words[0])}: {error.strerror}")
+                tell(f"{shown(self.words[0])}: {error.strerror}{hint_of(self.words[0], error)}")
             except OSError as error:
-                tell(f"{shown(self.words[0])}: {error.strerror}")
+                tell(f"{shown(self.words[0])}: {error.strerror}{hint_of(self.words[0], error)}")
         finally:
             os._exit(status)
 
@@ -272,6 +272,18 @@ def execute(words: list[str]) -> None:
         except OSError as error:
             refused = refused or error
     raise refused or missing
+
+
+def hint_of(word: str, error: OSError) -> str:
+    """What helps against an error of `execute`, behind it, or nothing."""
+    if error.errno == errno.ENOEXEC:
+        return "; a script begins with a line as #!/bin/sh"
+    before = os.path.normpath(os.path.join(os.environ.get("OLDPWD", "/"), word))
+    if error.errno != errno.ENOENT or "/" not in word or word.startswith("/"):
+        return ""
+    if os.path.lexists(word) or not os.path.exists(before):
+        return ""
+    return f"; the command begins in the tree's copy, so name it as {shown(before)}"
 
 
 def unnamed_file() -> int:

@@ -13,7 +13,7 @@ from .program import call
 from .reasons import Path, Why, bindings, met, valued
 from .refusals import Folder
 from .report import BadLine, Entry, read_report
-from .sources import Handed
+from .sources import Handed, check_folder
 from .statuses import Failed, Status
 from .summary import read_input
 from .terminal import Given, Words, below, many, shown
@@ -307,8 +307,8 @@ def explained_scripts(files: list[str]) -> int:
 def explained(given: Given, texts: Texts, folder: str | None) -> int:
     """Tells of a description, of a folder by it, and of a run on it."""
     wrong = tell_mistakes(texts.mistakes())
-    if folder is not None and not os.path.isdir(folder):
-        raise Failed(Status.UNREAD, f"{shown(folder)}: no folder stands there")
+    if folder is not None:
+        check_folder(folder)
     store = filestore_of(folder) if folder is not None else None
     if wrong or folder is not None and store is None:
         return Status.NOT_DONE

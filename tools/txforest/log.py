@@ -38,6 +38,7 @@ if TYPE_CHECKING:
 TAIL = 1 << 16  # bytes of a log that are looked through first
 CONFLICT = b"13"  # Status.CONFLICT
 FLAGS = os.O_RDWR | os.O_CREAT | os.O_APPEND | os.O_CLOEXEC | os.O_NONBLOCK | os.O_NOCTTY
+TOLD: set[tuple[bytes, bytes]] = set()  # the logs and jobs whose missing line was told
 
 
 def now() -> bytes:
@@ -88,7 +89,7 @@ def put_line(file: bytes, ident: bytes, when: bytes, status: bytes, more: bytes)
     try:
         fd = os.open(file, FLAGS, 0o666)
     except OSError as error:
-        tell(f"{shown(file)}: gets no line of the job {ident.decode()}: {error.strerror}")
+        tell_missing(file, ident, error)
         return
     try:
         if not stat.S_ISREG(os.fstat(fd).st_mode):
@@ -102,9 +103,16 @@ def put_line(file: bytes, ident: bytes, when: bytes, status: bytes, more: bytes)
         write_all(fd, b"\n" + line if torn else line)
         os.fsync(fd)
     except OSError as error:
-        tell(f"{shown(file)}: gets no line of the job {ident.decode()}: {error.strerror}")
+        tell_missing(file, ident, error)
     finally:
         os.close(fd)
+
+
+def tell_missing(file: bytes, ident: bytes, error: OSError) -> None:
+    """Tells that a log gets no line of a job, once for each job."""
+    if (file, ident) not in TOLD:
+        TOLD.add((file, ident))
+        tell(f"{shown(file)}: gets no line of the job {ident.decode()}: {error.strerror}")
 
 
 def write_all(fd: int, data: bytes) -> None:

@@ -350,10 +350,10 @@ def written(file: str, text: bytes) -> None:
         with open(fresh, "wb") as it:
             it.write(text)
         os.replace(fresh, file)
-    except OSError:
+    except OSError as error:
         if os.path.lexists(fresh):
             os.unlink(fresh)
-        raise
+        raise OSError(error.errno, error.strerror, file) from None
 
 
 def tool() -> int:

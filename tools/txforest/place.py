@@ -135,9 +135,14 @@ class Place:
 
 
 def new_place(home: int, front: bytes) -> Place:
-    """A fresh place. It has no access list of the directory in which it stands."""
+    """A fresh place. It has no access list of the directory in which it stands. Raises OSError with
+    the path of that directory if none can be made there."""
     name = front + os.urandom(IDENT // 2).hex().encode()
-    calls.S.mkdir(name, 0o700, home)
+    try:
+        calls.S.mkdir(name, 0o700, home)
+    except OSError as error:
+        why = f"{error.strerror}; the job's own place is made there"
+        raise OSError(error.errno, why, os.readlink(f"/proc/self/fd/{home}")) from error
     fd = calls.S.open(name, DIR, home)
     try:
         hold(fd)

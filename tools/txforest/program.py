@@ -116,6 +116,16 @@ def started(
             os.set_inheritable(fd, False)
 
 
+def end(pid: int) -> None:
+    """Ends a child and waits for it, unless that was done already: its number may be another's."""
+    try:
+        if os.waitpid(pid, os.WNOHANG)[0] == 0:
+            os.kill(pid, 9)
+            os.waitpid(pid, 0)
+    except ChildProcessError:
+        pass
+
+
 def answer_of(name: str, pid: int, reading: int, told: int, until_line: bool) -> Answer:
     """Reads what a process prints, and waits for its end. If the tool ends before, so does it."""
     parts: list[bytes] = []
@@ -130,8 +140,7 @@ def answer_of(name: str, pid: int, reading: int, told: int, until_line: bool) ->
             os.kill(pid, 9)
         ended = os.waitstatus_to_exitcode(os.waitpid(pid, 0)[1])
     except BaseException:
-        os.kill(pid, 9)
-        os.waitpid(pid, 0)
+        end(pid)
         raise
     finally:
         os.close(reading)

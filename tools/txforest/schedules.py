@@ -20,7 +20,7 @@ from .program import call
 from .reasons import Path
 from .replay import find_schedule
 from .report import BadLine, read_report
-from .sources import Handed
+from .sources import Handed, check_folder
 from .statuses import Failed, Status
 from .summary import read_input
 from .terminal import Given, Words, below, many, shown
@@ -308,6 +308,7 @@ def tool() -> int:
     spec, folder, *scripts = given.operands
     limit, seed = chosen(given)
     texts = whole(Texts(spec, scripts))
+    check_folder(folder)
     with Handed(texts.sources) as handed:
         job = Job(texts, folder, handed)
         of = given.text("of")

@@ -14,4 +14,11 @@ else:
 
 ENDING = (signal.SIGTERM, signal.SIGHUP, signal.SIGINT)  # they end a tool, if nobody ignores them
 
-__all__ = ["ENDING", "signal"]
+__all__ = ["ENDING", "end_at_once", "signal"]
+
+
+def end_at_once() -> None:
+    """Lets SIGINT end the process, without a traceback, until a tool takes its signals. Nothing is
+    to be cleared while its modules load."""
+    if signal.getsignal(signal.SIGINT) is signal.default_int_handler:
+        signal.signal(signal.SIGINT, signal.SIG_DFL)

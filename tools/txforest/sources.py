@@ -58,6 +58,12 @@ def read_text(word: str) -> bytes:
         raise Failed(Status.UNREAD, f"{shown(word)}: {error.strerror}") from None
 
 
+def check_folder(word: str) -> None:
+    """Fails with UNREAD, and the word, if no folder stands there."""
+    if not os.path.isdir(word):
+        raise Failed(Status.UNREAD, f"{shown(word)}: no folder stands there")
+
+
 def read_source(word: str) -> Source:
     """The source that a word names, without data."""
     return Source(word, read_text(word))
