@@ -15,8 +15,11 @@ from txforest.do import hint_of
 from txforest.statuses import Failed, Status
 
 TOOLS = os.path.dirname(os.path.dirname(os.path.abspath(__file__)))
+# The tests may run where SIGINT is ignored, as behind `&` in a script.
 INTERRUPTED = """
-import os, runpy, sys
+import os, runpy, signal, sys
+
+signal.signal(signal.SIGINT, signal.default_int_handler)
 
 class Interrupts:
     def find_spec(self, name, path=None, target=None):
