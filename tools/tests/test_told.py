@@ -29,6 +29,25 @@ class Interrupts:
 sys.meta_path.insert(0, Interrupts())
 runpy.run_path(sys.argv.pop(), run_name="__main__")
 """
+# Python drops what is raised while it clears an object away.
+LOST = """
+import os, signal, time
+
+signal.signal(signal.SIGINT, signal.default_int_handler)
+from txforest import terminal
+
+class Cleared:
+    def __del__(self):
+        os.kill(os.getpid(), 2)
+        time.sleep(0)
+
+def tool():
+    Cleared()
+    time.sleep(20)
+    print("went on")
+
+terminal.main(tool)
+"""
 
 
 class Told(unittest.TestCase):
@@ -124,6 +143,13 @@ class Told(unittest.TestCase):
             words = [sys.executable, "-IS", "-c", INTERRUPTED, os.path.join(TOOLS, name)]
             ran = subprocess.run(words, capture_output=True, text=True, timeout=60, check=False)
             self.assertEqual((name, ran.returncode, ran.stderr), (name, -signal.SIGINT, ""))
+
+    def test_an_interrupt_while_an_object_is_cleared_away_is_not_lost(self) -> None:
+        words = [sys.executable, "-c", LOST]
+        ran = subprocess.run(
+            words, capture_output=True, text=True, timeout=60, check=False, cwd=TOOLS
+        )
+        self.assertEqual((ran.returncode, ran.stdout, ran.stderr), (130, "", ""))
 
 
 if __name__ == "__main__":

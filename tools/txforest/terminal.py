@@ -18,6 +18,8 @@ STATUSES = (
     ("3-8", "the program's own status, with its line"),
     ("9", "the system refused something; the path and the cause are told"),
 )
+SOON = 0.001
+"""Seconds until a lost signal is raised once more."""
 
 
 # ---- what is told
@@ -272,6 +274,20 @@ def leave(number: int, _frame: object) -> NoReturn:
     raise SystemExit(128 + number)
 
 
+def ask_again(lost: sys.UnraisableHookArgs) -> None:
+    """Python drops an exception that comes while it clears an object away. If a signal has raised
+    it, a timer raises it once more, as soon as the tool is behind that."""
+    from .signals import signal
+
+    ended = lost.exc_value
+    if not (isinstance(ended, SystemExit) and isinstance(ended.code, int) and ended.code > 128):
+        sys.__unraisablehook__(lost)
+        return
+    number = ended.code - 128
+    signal.signal(signal.SIGALRM, lambda _, frame: leave(number, frame))
+    signal.setitimer(signal.ITIMER_REAL, SOON)
+
+
 def take_signals() -> None:
     """SIGTERM, SIGHUP and SIGINT end the tool in order; a file above a limit is an error."""
     from .signals import ENDING, signal
@@ -280,6 +296,7 @@ def take_signals() -> None:
         if signal.getsignal(number) != signal.SIG_IGN:
             signal.signal(number, leave)
     signal.signal(signal.SIGXFSZ, signal.SIG_IGN)
+    sys.unraisablehook = ask_again
 
 
 def status_of(tool: Callable[[], int | None]) -> int:
