@@ -156,6 +156,25 @@ def done(words: list[str], scratch: str, folder: str | None = None) -> Run:
     return ran
 
 
+def all_done(commands: Sequence[list[str]], scratch: str) -> float:
+    """The seconds until all of these commands have ended, which are begun at once. What they print
+    goes nowhere. Ends the bench if the status of one is not 0."""
+    begin = time.monotonic()
+    with open(os.path.join(scratch, "stderr"), "wb") as err:
+        children = [
+            subprocess.Popen(
+                words, stdin=subprocess.DEVNULL, stdout=subprocess.DEVNULL, stderr=err
+            )
+            for words in commands
+        ]
+        statuses = [child.wait() for child in children]
+    seconds = since(begin)
+    if any(statuses):
+        told = read(os.path.join(scratch, "stderr")).decode(errors="replace")
+        sys.exit(f"status {max(statuses)}: {told}")
+    return seconds
+
+
 def nothing() -> None:
     """Does nothing."""
 
