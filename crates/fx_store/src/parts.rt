@@ -37,7 +37,14 @@ fn is_component(part: &[u8]) -> bool
 pub(crate) fn has_more_parts(text: &[u8], limit: usize) -> bool
     ensures { result ≡ nat_lt limit (length (slice_split is_slash text.now)) }
 {
-    limit <= count_slashes(text)
+    count_parts(text) > limit
+}
+
+/// The number of parts.
+pub(crate) fn count_parts(text: &[u8]) -> usize
+    ensures { result ≡ length (slice_split is_slash text.now) }
+{
+    count_slashes(text) + 1
 }
 
 fn count_slashes(text: &[u8]) -> usize

@@ -12,7 +12,7 @@ ghost use Rattle.fx_store.specs.declared.limits.TheConstants.{MAX_PATH_NAMES};
 
 use crate::limits::MAX_PATH_NAMES;
 use crate::name::{Name, PathFault, is_name};
-use crate::parts::{add_names, are_names, has_more_parts};
+use crate::parts::{add_names, are_names, count_parts};
 use fx_base::NoMemory;
 use std::alloc::{AllocError, Global};
 use std::cmp::Ordering;
@@ -86,7 +86,7 @@ impl Path {
         if self.names.len() >= MAX_PATH_NAMES {
             return Err(PathFault::TooDeep);
         }
-        let mut names = Vec::from_clones(alloc, &self.names)?;
+        let mut names = with_room(alloc, &self.names, 1)?;
         names.push(name.copy(alloc)?)?;
         Ok(Path { names })
     }
@@ -96,8 +96,7 @@ impl Path {
         requires { length self.now < MAX_PATH_NAMES }
         ensures { IfOk result (λ p. p ≡ self.now /ₚ name.now) }
     {
-        prove!(is_name(name.as_slice()));
-        let mut names = Vec::from_clones(alloc, &self.names)?;
+        let mut names = with_room(alloc, &self.names, 1)?;
         names.push(name.copy(alloc)?)?;
         Ok(Path { names })
     }
@@ -120,10 +119,11 @@ impl Path {
         if !are_names(text) {
             return Err(PathFault::BadName);
         }
-        if has_more_parts(text, MAX_PATH_NAMES - self.names.len()) {
+        let more = count_parts(text);
+        if more > MAX_PATH_NAMES - self.names.len() {
             return Err(PathFault::TooDeep);
         }
-        let mut names = Vec::from_clones(alloc, &self.names)?;
+        let mut names = with_room(alloc, &self.names, more)?;
         add_names(alloc, &mut names, text)?;
         Ok(Path { names })
     }
@@ -177,6 +177,15 @@ impl Path {
             names: Vec::from_clones(alloc, &self.names)?,
         })
     }
+}
+
+/// A copy of the names, with room for so many more.
+fn with_room(alloc: Global, names: &[Name], more: usize) -> Result<Vec<Name>, NoMemory>
+    ensures { IfOk result (λ copy. copy.items ≡ names.now) }
+{
+    let mut copy = Vec::with_capacity(alloc, names.len().saturating_add(more))?;
+    copy.extend_with_clones(names)?;
+    Ok(copy)
 }
 
 impl Clone for Path {

@@ -23,7 +23,7 @@ pub(crate) enum Component {
 pub(crate) fn names_of(alloc: Global, path: &Path) -> Result<VecDeque<Component>, NoMemory>
     ensures { IfOk result (λ q. way q.items ≡ map rule.Normal path.now) }
 {
-    let mut names = VecDeque::new(alloc);
+    let mut names = VecDeque::with_capacity(alloc, path.len() as usize)?;
     for name in path.iter() {
         names.push_back(Component::Normal(name.copy(alloc)?))?;
     }

@@ -10,6 +10,7 @@ use fx_base::NoMemory;
 use fx_store::{Landing, LinkText, Name, Node, Path, PathFault};
 use std::alloc::Global;
 use std::collections::VecDeque;
+use std::mem;
 
 /// The most links that are followed.
 const MAX_LINKS: u32 = 40;
@@ -49,7 +50,10 @@ pub(crate) fn advance(alloc: Global, walk: &mut Walk) -> Result<Next, NoMemory>
     ensures goes_on { IfOk result (GoesOn walk.old walk.new) }
 {
     match walk.rest.pop_front() {
-        None => Ok(Next::Lands(Landing::At(walk.here.copy(alloc)?))),
+        None => {
+            let here = mem::replace(&mut walk.here, Path::root(alloc));
+            Ok(Next::Lands(Landing::At(here)))
+        }
         Some(Component::CurDir) => Ok(Next::Goes),
         Some(Component::ParentDir) => {
             walk.here = walk.here.parent(alloc)?;

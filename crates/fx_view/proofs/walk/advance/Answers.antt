@@ -7,9 +7,9 @@ use Rattle.fx_view.specs.Walks.{rule_then}
 use Rattle.fx_view.proofs.WalkRules.{none_left, rule_of-ends, rule_of-stays, rule_of-rises, rule_of-named}
 use Rattle.fx_view.proofs.walk.advance.Goals as goal
 
-pub returns-in_ok-copy-in-None-clause-rule : goal.returns-in_ok-copy-in-None-clause-rule
-returns-in_ok-copy-in-None-clause-rule c =
-    rule_of-ends c.args.walk.now _ (ap way (none_left _ (c.in-None.ensures.items ∙ c.in-None.ensures.rest))) c.in_ok-copy-in-None.ensures.copied
+pub returns-in-None-clause-rule : goal.returns-in-None-clause-rule
+returns-in-None-clause-rule c =
+    rule_of-ends c.args.walk.now _ (ap way (none_left _ (c.in-None.ensures.items ∙ c.in-None.ensures.rest))) c.replace-here.ensures.value
 
 pub returns-in-Some-CurDir-clause-rule : goal.returns-in-Some-CurDir-clause-rule
 returns-in-Some-CurDir-clause-rule c =
