@@ -21,7 +21,13 @@ use std::sync::Arc;
 
 /// The log of a run. Contracts see its base and its order: the outputs, the end and the changed paths of each entry are those
 /// of its transaction, run whole on the state before it, and the filestore is the state after all.
+///
+/// Its parts lie behind one pointer, so that little is copied where it goes from hand to hand.
 pub struct Board {
+    parts: Box<Parts>,
+}
+
+struct Parts {
     base: Arc<Base>,
     entries: Vec<Entry>,
     /// The filestore after all entries, once one of them has changed something; until then it is the loaded one.
@@ -32,7 +38,13 @@ pub struct Board {
 /// It is written out, so that its parts are dropped in this crate alone.
 impl Drop for Board {
     fn drop(self) {
-        let Board {
+        let Board { parts: _parts } = self;
+    }
+}
+
+impl Drop for Parts {
+    fn drop(self) {
+        let Parts {
             base,
             entries: _entries,
             own,
@@ -55,10 +67,11 @@ impl Model for Board {
     ghost use Rattle.fx_board.specs.Board.{log_of, IsBoard};
     ghost use Rattle.fx_board.specs.Growing.{nodes_by};
 
-    ghost view = { λ b. log_of b.base.value b.entries.items };
+    ghost view = { λ b. log_of b.parts.value.base.value b.parts.value.entries.items };
 
-    ghost invariant = { λ b. IsBoard b.base.value b.entries.items
-        (nodes_by b.base.value.loaded.nodes b.own) b.index.entries };
+    ghost invariant = { λ b. IsBoard b.parts.value.base.value b.parts.value.entries.items
+        (nodes_by b.parts.value.base.value.loaded.nodes b.parts.value.own)
+        b.parts.value.index.entries };
 }
 
 /// Why an attempt is not settled. Both refusals leave the log as it is, and hand the attempt back.
@@ -98,11 +111,14 @@ impl Board {
     {
         prove!(base.plan.len() <= SHELL_LIMIT);
         let _whole = base.loaded.places();
-        Ok(Board {
+        let parts = Parts {
             base,
             entries: Vec::new(alloc),
             own: None,
             index: IndexMap::new(alloc),
+        };
+        Ok(Board {
+            parts: Box::new(alloc, parts)?,
         })
     }
 
@@ -114,14 +130,14 @@ impl Board {
         ensures base { base_tree result.now ≡ self.now.base }
         ensures log { IsLog self.now }
     {
-        &self.base
+        &self.parts.base
     }
 
     /// The base, to be shared.
     pub fn shared_base(&self) -> &Arc<Base>
         ensures { base_tree result.now.value ≡ self.now.base }
     {
-        &self.base
+        &self.parts.base
     }
 
     /// The number of entries.
@@ -129,7 +145,7 @@ impl Board {
         ensures len { result ≡ length self.now.order }
         ensures log { IsLog self.now }
     {
-        self.entries.len() as u64
+        self.parts.entries.len() as u64
     }
 
     /// The entry at `i`, from 0 in commit order; None exactly from `len` on.
@@ -137,7 +153,7 @@ impl Board {
         ensures none { (result ≡ None) ↔ (length self.now.order ≤ i) }
         ensures entry { IfSome result (λ e. IsEntry self.now i e.now) }
     {
-        self.entries.get(i as usize)
+        self.parts.entries.get(i as usize)
     }
 
     /// The filestore after all entries.
@@ -145,9 +161,9 @@ impl Board {
         ensures nodes { result.now.nodes ≡ last_state self.now }
         ensures log { IsLog self.now }
     {
-        match &self.own {
+        match &self.parts.own {
             Some(store) => store,
-            None => &self.base.loaded,
+            None => &self.parts.base.loaded,
         }
     }
 
@@ -160,7 +176,7 @@ impl Board {
             Some(node) => Some(node.copy(alloc)?),
             None => None,
         };
-        Ok((node, self.entries.len() as u64))
+        Ok((node, self.parts.entries.len() as u64))
     }
 
     /// The last entry that changed a path; None exactly where none did.
@@ -168,7 +184,7 @@ impl Board {
         ensures { MatchOption result (NeverChanged self.now path.now)
             (IsLastChange self.now path.now) }
     {
-        last(&self.index, path)
+        last(&self.parts.index, path)
     }
 
     /// Settles an attempt of the shell's next transaction: it becomes the next entry, whose number is answered; or a
@@ -203,7 +219,7 @@ impl Board {
         ensures fresh { OnOk result (IsFreshReads self.old.base self.old.order attempt.reads) }
         ensures refused { IfErr result (RefusedAs self.old self.new attempt) }
     {
-        let (path, entry) = match stale(&self.index, &attempt.reads) {
+        let (path, entry) = match stale(&self.parts.index, &attempt.reads) {
             None => return self.add(alloc, attempt),
             Some(named) => named,
         };
@@ -229,24 +245,24 @@ impl Board {
         ensures fresh { OnOk result (IsFreshReads self.old.base self.old.order attempt.reads) }
         ensures refused { IfErr result (RefusedAs self.old self.new attempt) }
     {
-        let entry = self.entries.len() as u64;
-        match grow(
+        let parts = &mut *self.parts;
+        let entry = parts.entries.len() as u64;
+        let grown = match grow(
             alloc,
-            &mut self.entries,
-            &self.base.loaded,
-            &mut self.own,
-            &mut self.index,
+            &mut parts.entries,
+            &parts.base.loaded,
+            &mut parts.own,
+            &mut parts.index,
             attempt,
         ) {
-            Ok(grown) => {
-                make(&mut self.own, grown.changes);
-                note(&mut self.index, grown.keys, entry);
-                Ok(Settled {
-                    entry,
-                    reads: grown.reads,
-                })
-            }
-            Err(attempt) => Err(Settle::NoMemory(attempt)),
-        }
+            Ok(grown) => grown,
+            Err(attempt) => return Err(Settle::NoMemory(attempt)),
+        };
+        make(&mut parts.own, grown.changes);
+        note(&mut parts.index, grown.keys, entry);
+        Ok(Settled {
+            entry,
+            reads: grown.reads,
+        })
     }
 }

@@ -8,5 +8,5 @@ use Rattle.fx_board.proofs.board.Board.new.Goals as goal
 
 pub invariant_of-result : goal.invariant_of-result
 invariant_of-result c =
-    rw (c.new.ensures.items, c.new-2.ensures.empty)
+    rw (c.in_ok-new.ensures.ok, c.new.ensures.items, c.new-2.ensures.empty)
     (starts c.args.base.value c.args.base.value.loaded.nodes (subst (λ (b : Base). IsWhole (get b.loaded.nodes)) c.deref-2.ensures c.places-whole.ensures.table.whole) (subst (λ (b : Base). IsPlan b.plan) c.deref.ensures c.len.ensures.plan) refl)
