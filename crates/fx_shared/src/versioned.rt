@@ -23,7 +23,7 @@ use std::sync::Arc;
 /// A log, and what each of its entries has left at each path that it changed. Contracts see the log.
 pub struct Versioned {
     board: Board,
-    versions: Table,
+    versions: Box<Table>,
 }
 
 /// It is written out, so that its parts are dropped in this crate alone.
@@ -47,7 +47,7 @@ impl Model for Versioned {
 
     ghost view = { λ v. v.board };
 
-    ghost invariant = { λ v. HasVersions v.board v.versions.entries };
+    ghost invariant = { λ v. HasVersions v.board v.versions.value.entries };
 }
 
 fn copied(alloc: Global, node: Option<&Node>) -> Result<Option<Node>, NoMemory>
@@ -65,10 +65,8 @@ impl Versioned {
         ensures { IfOk result (λ v. v ≡ started (base_tree base.value)) }
     {
         let board = Board::new(alloc, base)?;
-        Ok(Versioned {
-            board,
-            versions: IndexMap::new(alloc),
-        })
+        let versions = Box::new(alloc, IndexMap::new(alloc))?;
+        Ok(Versioned { board, versions })
     }
 
     /// Lets go of the log and of its versions.

@@ -9,7 +9,7 @@
 //! | post | a store of the new length in word 1 | the seat stands for the history that it is to give, and counts a new entry as its own |
 //! | release | a store of 0 in word 0 | the seat is not in its turn, and the value is home |
 //! | part | a load of word 0 | the maker counts one more split, and a new seat knows what the maker knows |
-//! | know | a load of word 0 by the new seat | the history has none of its entries |
+//! | know | a load of word 0 by the new seat, or by one that waits | the history that it has seen has as many of its entries as it counts |
 //! | note | a load of word 0 | the maker counts one more joined seat and holds a note of what it had seen; that seat is spent |
 //! | learn | a load of word 0 by the maker | the maker has seen the longer of what it had seen and the note |
 //!

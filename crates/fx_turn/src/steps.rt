@@ -17,7 +17,10 @@ use fx_base::NoMemory;
 use std::alloc::Global;
 use std::snapshot::Snapshot;
 use std::sync::Wait;
-use std::thread;
+use std::{hint, thread};
+
+/// How often a seat looks for the end of another's turn before its thread gives way. A turn is mostly over by then.
+const LOOKS: u32 = 32;
 
 fn unwrapped<K: Kept>(mut slots: Vec<Option<K>>) -> K
     requires { Holds slots.items }
@@ -76,6 +79,21 @@ fn try_hold<K: Kept>(top: &Top<K>, place: &mut Place<K>) -> Option<K>
     }
 }
 
+/// Whether no seat was seen in its turn, after a short wait at most.
+fn is_soon_home<K: Kept>(top: &Top<K>, place: &mut Place<K>) -> bool
+    requires table { IsPlaceOf top.now.table_id place.old }
+    requires idle { IsIdle place.old.me }
+    ensures same { IsSamePlace place.old place.new × (place.new.me ≡ place.old.me) }
+{
+    for _ in 0..LOOKS {
+        if top.load::<Know<K>>(place, 0) == 0 {
+            return true;
+        }
+        hint::spin_loop();
+    }
+    false
+}
+
 /// Waits until no seat is in its turn, and takes the value.
 pub(crate) fn hold<K: Kept, R: Wait>(rt: &R, top: &Top<K>, place: &mut Place<K>) -> K
     requires table { IsPlaceOf top.now.table_id place.old }
@@ -85,9 +103,11 @@ pub(crate) fn hold<K: Kept, R: Wait>(rt: &R, top: &Top<K>, place: &mut Place<K>)
     ensures kept { Fits K.base K.history K.shell place.old.me.0 result }
 {
     for _ in rt.forever() {
-        match try_hold(top, place) {
-            Some(kept) => return kept,
-            None => thread::yield_now(),
+        if let Some(kept) = try_hold(top, place) {
+            return kept;
+        }
+        if !is_soon_home(top, place) {
+            thread::yield_now();
         }
     }
     unreachable!()

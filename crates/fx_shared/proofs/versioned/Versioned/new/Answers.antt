@@ -7,4 +7,5 @@ use Rattle.fx_shared.proofs.versioned.Versioned.new.Goals as goal
 
 pub invariant_of-result : goal.invariant_of-result
 invariant_of-result c =
-    subst (λ (log : Log). HasVersions log c.new-2.result.entries) (sym c.in_ok-board.ensures) (begins (base_tree c.args.base.value) c.new-2.result.entries c.new-2.ensures.empty)
+    subst (λ (log : Log). HasVersions log c.in_ok-versions.versions.value.entries) (sym c.in_ok-board.ensures)
+    (begins (base_tree c.args.base.value) c.in_ok-versions.versions.value.entries (rw c.in_ok-versions.ensures.ok c.new-2.ensures.empty))
