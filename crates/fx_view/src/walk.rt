@@ -50,10 +50,7 @@ pub(crate) fn advance(alloc: Global, walk: &mut Walk) -> Result<Next, NoMemory>
     ensures goes_on { IfOk result (GoesOn walk.old walk.new) }
 {
     match walk.rest.pop_front() {
-        None => {
-            let here = mem::replace(&mut walk.here, Path::root(alloc));
-            Ok(Next::Lands(Landing::At(here)))
-        }
+        None => Ok(Next::Lands(Landing::At(take(alloc, &mut walk.here)))),
         Some(Component::CurDir) => Ok(Next::Goes),
         Some(Component::ParentDir) => {
             walk.here = walk.here.parent(alloc)?;
@@ -63,6 +60,13 @@ pub(crate) fn advance(alloc: Global, walk: &mut Walk) -> Result<Next, NoMemory>
     }
 }
 
+/// Takes the directory out of a walk that ends there, so that it need not be copied.
+fn take(alloc: Global, here: &mut Path) -> Path
+    ensures { result ≡ here.old }
+{
+    mem::replace(here, Path::root(alloc))
+}
+
 /// How a walk goes on at a name: it looks at that entry, unless its path would have more than 64 names.
 fn enter(alloc: Global, walk: &Walk, name: Name) -> Result<Next, NoMemory>
     ensures rule { IfOk result (λ next. rule_named walk.now name ≡ rule_then walk.now next) }
@@ -70,18 +74,25 @@ fn enter(alloc: Global, walk: &Walk, name: Name) -> Result<Next, NoMemory>
 {
     match walk.here.join(alloc, &name) {
         Ok(path) => Ok(Next::Looks(name, path)),
-        Err(PathFault::TooDeep) => Ok(Next::Lands(missing(alloc, walk, name)?)),
+        Err(PathFault::TooDeep) => {
+            let here = walk.here.copy(alloc)?;
+            Ok(Next::Lands(missing(alloc, here, name, &walk.rest)?))
+        }
         Err(PathFault::BadName) => unreachable!(),
         Err(PathFault::NoMemory) => Err(NoMemory),
     }
 }
 
 /// The landing where the directory has no entry of a name.
-fn missing(alloc: Global, walk: &Walk, name: Name) -> Result<Landing, NoMemory>
-    ensures { IfOk result (λ l. l ≡ rule.missing walk.now.here name (way walk.now.rest.items)) }
+fn missing(
+    alloc: Global,
+    here: Path,
+    name: Name,
+    rest: &VecDeque<Component>,
+) -> Result<Landing, NoMemory>
+    ensures { IfOk result (λ l. l ≡ rule.missing here name (way rest.now.items)) }
 {
-    let here = walk.here.copy(alloc)?;
-    match names_only(alloc, name, &walk.rest)? {
+    match names_only(alloc, name, rest)? {
         Some(names) => Ok(Landing::Absent(here, names)),
         None => Ok(Landing::Blocked(here)),
     }
@@ -101,7 +112,10 @@ pub(crate) fn arrive(
     ensures left { IfOk result (λ landing. IfNone landing (left walk.new ≤ left walk.old)) }
 {
     match node {
-        None => Ok(Some(missing(alloc, walk, name)?)),
+        None => {
+            let here = take(alloc, &mut walk.here);
+            Ok(Some(missing(alloc, here, name, &walk.rest)?))
+        }
         Some(Node::File { bytes, exec: _ }) => {
             drop(bytes);
             Ok(Some(at_file(walk, path)))

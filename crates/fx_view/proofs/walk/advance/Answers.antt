@@ -9,7 +9,7 @@ use Rattle.fx_view.proofs.walk.advance.Goals as goal
 
 pub returns-in-None-clause-rule : goal.returns-in-None-clause-rule
 returns-in-None-clause-rule c =
-    rule_of-ends c.args.walk.now _ (ap way (none_left _ (c.in-None.ensures.items ∙ c.in-None.ensures.rest))) c.replace-here.ensures.value
+    rule_of-ends c.args.walk.now _ (ap way (none_left _ (c.in-None.ensures.items ∙ c.in-None.ensures.rest))) c.take.ensures
 
 pub returns-in-Some-CurDir-clause-rule : goal.returns-in-Some-CurDir-clause-rule
 returns-in-Some-CurDir-clause-rule c =
