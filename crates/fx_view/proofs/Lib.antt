@@ -1,4 +1,5 @@
 pub mod Lookups
+pub mod Few
 pub mod Growing
 pub mod Rules
 pub mod Ordering

@@ -1,6 +1,6 @@
 -- Look-ups by path: what the tables answer is what the definitions say.
-use Rattle.std.proofs.Common.{◌≡◌, ℕ, zero, suc, ◌+◌, not, Bool, true, false, cond, List, [], ◌∷◌, ◌++◌, length, map, slice_get, Option, Some, None, is_some, refl, sym, ap, subst, ◌∙◌, arith}
-use Rattle.std.specs.Prelude.{position, nat_lt}
+use Rattle.std.proofs.Common.{◌≡◌, ℕ, zero, suc, ◌+◌, not, Bool, true, false, cond, List, [], ◌∷◌, ◌++◌, map, slice_get, Option, Some, None, refl, sym, ap, subst, arith}
+use Rattle.std.specs.Prelude.{position}
 use Rattle.std.specs.List.{IsDistinct, position_or_len}
 use Rattle.std.specs.Map.{lookup, keys_of}
 use Rattle.std.proofs.lemmas.Option.{same_Some}
@@ -68,28 +68,10 @@ module _ (path : Path) where
   abbrev is : Path → Bool
   is = eq_by_cmp path_cmp path
 
-  count_position : (reads : ReadList) → position_or_len is (keys_of reads) ≡ count_before (path ∷ []) reads
+  pub count_position : (reads : ReadList) → position_or_len is (keys_of reads) ≡ count_before (path ∷ []) reads
   count_position [] = refl
   count_position (e ∷ es) = at (is e.0) (count_position es)
     where
       at : (b : Bool) → position_or_len is (keys_of es) ≡ count_before (path ∷ []) es → cond (not b) (1 + position_or_len is (keys_of es)) 0 ≡ cond (cond b true false) 0 (suc (count_before (path ∷ []) es))
       at true rest = refl
       at false rest = omega (arith, rest)
-
-  pub count_some : (reads : ReadList) (i : ℕ) → position is (keys_of reads) ≡ Some i → i ≡ count_before (path ∷ []) reads
-  count_some reads i found = at (nat_lt (position_or_len is (keys_of reads)) (length (keys_of reads))) found
-    where
-      at : (b : Bool) → cond b (Some (position_or_len is (keys_of reads))) None ≡ Some i → i ≡ count_before (path ∷ []) reads
-      at true e = let same : position_or_len is (keys_of reads) ≡ i = cc in sym same ∙ count_position reads
-      at false e = absurd (cc)
-
-  count_all : (reads : ReadList) → is_some (lookup is reads) ≡ false → length reads ≡ count_before (path ∷ []) reads
-  count_all [] gone = refl
-  count_all (e ∷ es) gone = at (is e.0) gone (count_all es)
-    where
-      at : (b : Bool) → is_some (cond b (Some e.1) (lookup is es)) ≡ false → (is_some (lookup is es) ≡ false → length es ≡ count_before (path ∷ []) es) → suc (length es) ≡ cond (cond b true false) 0 (suc (count_before (path ∷ []) es))
-      at true gone rest = absurd (cc)
-      at false gone rest = ap suc (rest gone)
-
-  pub count_none : (reads : ReadList) (n : ℕ) → is_some (lookup is reads) ≡ false → n ≡ length reads → n ≡ count_before (path ∷ []) reads
-  count_none reads n gone all = all ∙ count_all reads gone

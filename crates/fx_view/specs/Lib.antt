@@ -1,6 +1,7 @@
 pub mod ReadList
 pub mod OwnList
 pub mod Reads
+pub mod Few
 pub mod Own
 pub mod Answers
 pub mod Meaning

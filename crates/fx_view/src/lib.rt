@@ -9,6 +9,7 @@ mod reader;
 mod reads;
 mod resolving;
 mod same;
+mod table;
 mod walk;
 mod whole;
 

@@ -7,16 +7,16 @@ ghost use Rattle.fx_store.specs.Changes.{IsChanges};
 
 use crate::reads::Reads;
 use crate::same::is_same;
+use crate::table::Table;
 use fx_base::NoMemory;
 use fx_store::{Change, Changes, Node, Path};
-use indexmap::IndexMap;
 use std::alloc::Global;
 use std::marker::Model;
 
 /// An attempt's own changes: at some paths a node from now on, or nothing. Contracts see the paths in the order in which
 /// they were first changed.
 pub struct Overlay {
-    table: IndexMap<Path, Option<Node>>,
+    table: Table<Option<Node>>,
 }
 
 /// It is written out, so that its parts are dropped in this crate alone.
@@ -33,9 +33,9 @@ impl Model for Overlay {
 
     ghost use Rattle.fx_view.specs.Own.{IsOwn};
 
-    ghost view = { λ o. o.table.entries };
+    ghost view = { λ o. o.table };
 
-    ghost invariant = { λ o. IsOwn o.table.entries };
+    ghost invariant = { λ o. IsOwn o.table };
 }
 
 impl Overlay {
@@ -44,7 +44,7 @@ impl Overlay {
         ensures { result ≡ [] }
     {
         Overlay {
-            table: IndexMap::new(alloc),
+            table: Table::new(alloc),
         }
     }
 
@@ -61,7 +61,7 @@ impl Overlay {
         ensures change { option_map deref_pair result ≡ slice_get self.now i }
         ensures own { IsOwn self.now }
     {
-        self.table.get_index(i as usize)
+        self.table.at(i as usize)
     }
 
     /// The own change of a path, if there is one.
@@ -69,9 +69,6 @@ impl Overlay {
         ensures change { option_copied result ≡ own_at self.now path.now }
         ensures own { IsOwn self.now }
     {
-        if self.table.is_empty() {
-            return None;
-        }
         self.table.get(path)
     }
 
@@ -80,7 +77,7 @@ impl Overlay {
         ensures ok { OnOk result (self.new ≡ put_own self.old path node) }
         ensures err { OnErr result (self.new ≡ self.old) }
     {
-        let_go(self.table.insert(path, node)?);
+        self.table.insert(path, node)?;
         Ok(())
     }
 
@@ -91,22 +88,20 @@ impl Overlay {
         ensures ascending { IfOk result IsChanges }
     {
         let Overlay { table } = self;
-        let mut table = table;
-        table.sort_keys()?;
-        Ok(Changes::from_vec(net(alloc, table, reads)?))
+        Ok(Changes::from_vec(net(alloc, table.into_sorted()?, reads)?))
     }
 }
 
 /// The changes of the entries whose node differs from the one read, in their order.
 fn net(
     alloc: Global,
-    table: IndexMap<Path, Option<Node>>,
+    entries: Vec<(Path, Option<Node>)>,
     reads: &Reads,
 ) -> Result<Vec<Change>, NoMemory>
-    ensures { IfOk result (λ changes. IsNetOf reads.now table.entries changes.items) }
+    ensures { IfOk result (λ changes. IsNetOf reads.now entries.items changes.items) }
 {
     let mut changes = Vec::new(alloc);
-    for (path, node) in table {
+    for (path, node) in entries {
         add_net(&mut changes, reads, path, node)?;
     }
     Ok(changes)

@@ -4,17 +4,16 @@ ghost use Rattle.std.specs.Map.Iter.{deref_pair};
 ghost use Rattle.fx_view.specs.Reads.{IsReads, read_at, placed, count_before};
 ghost use Rattle.fx_store.specs.Names.{IsPath};
 
+use crate::table::Table;
 use fx_base::NoMemory;
 use fx_store::{Node, Path};
-use indexmap::IndexMap;
-use indexmap::map::Iter;
 use std::alloc::Global;
 use std::marker::Model;
 
 /// What stood at some paths, a node or none, each with the position of the look: the number of entries in the log at that
 /// moment. Contracts see the paths in the order in which they were looked at.
 pub struct Reads {
-    table: IndexMap<Path, (Option<Node>, u64)>,
+    table: Table<(Option<Node>, u64)>,
 }
 
 /// It is written out, so that its parts are dropped in this crate alone.
@@ -31,9 +30,9 @@ impl Model for Reads {
 
     ghost use Rattle.fx_view.specs.Reads.{IsReads};
 
-    ghost view = { λ r. r.table.entries };
+    ghost view = { λ r. r.table };
 
-    ghost invariant = { λ r. IsReads r.table.entries };
+    ghost invariant = { λ r. IsReads r.table };
 }
 
 impl Reads {
@@ -42,7 +41,7 @@ impl Reads {
         ensures { result ≡ [] }
     {
         Reads {
-            table: IndexMap::new(alloc),
+            table: Table::new(alloc),
         }
     }
 
@@ -59,15 +58,7 @@ impl Reads {
         ensures read { option_map deref_pair result ≡ slice_get self.now i }
         ensures reads { IsReads self.now }
     {
-        self.table.get_index(i as usize)
-    }
-
-    /// The reads, in the order of the looks.
-    pub fn iter(&self) -> Iter<'_, Path, (Option<Node>, u64)>
-        ensures rest { result ≡ self.now }
-        ensures reads { IsReads self.now }
-    {
-        self.table.iter()
+        self.table.at(i as usize)
     }
 
     /// What was read at a path, and the position of that look.
@@ -90,14 +81,14 @@ impl Reads {
         requires { i < length self.old }
         ensures { self.new ≡ placed i position self.old }
     {
-        self.table[i as usize].1 = position;
+        self.table.place(i as usize, position);
     }
 
     /// How many reads come before the path's; all of them where it was not read.
     pub fn count_before(&self, path: &Path) -> u64
         ensures { result ≡ count_before (path.now ∷ []) self.now }
     {
-        count_before_in(&self.table, path)
+        self.table.count_before(path) as u64
     }
 
     /// Adds what was read at a path that is new. A refusal changes nothing.
@@ -112,7 +103,7 @@ impl Reads {
         ensures ok { OnOk result (self.new ≡ self.old ++ (path, (node, position)) ∷ []) }
         ensures err { OnErr result (self.new ≡ self.old) }
     {
-        let_go(self.table.insert(path, (node, position))?);
+        self.table.insert(path, (node, position))?;
         Ok(())
     }
 
@@ -149,14 +140,3 @@ impl Reads {
         taken
     }
 }
-
-fn count_before_in(table: &IndexMap<Path, (Option<Node>, u64)>, path: &Path) -> u64
-    ensures { result ≡ count_before (path.now ∷ []) table.now.entries }
-{
-    match table.get_index_of(path) {
-        Some(i) => i as u64,
-        None => table.len() as u64,
-    }
-}
-
-fn let_go(_: Option<(Option<Node>, u64)>) {}

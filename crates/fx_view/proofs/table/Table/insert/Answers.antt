@@ -1,0 +1,20 @@
+use Rattle.std.proofs.Common.{sym}
+use Rattle.std.specs.Ordering.{eq_by_cmp}
+use Rattle.fx_store.specs.Names.{path_cmp}
+use Rattle.fx_view.proofs.Few.{insert_first, insert_rest, insert_last}
+use Rattle.fx_view.proofs.table.Table.insert.Goals as goal
+
+pub returns-in-Some-clause-ok : goal.returns-in-Some-clause-ok
+returns-in-Some-clause-ok g c =
+    rw (← c.self.view_is)
+    (insert_first (eq_by_cmp path_cmp) c.args.path c.args.value c.self.inside.few.items c.self.inside.many.entries c.put.new.few.items c.in-Some.i (rw c.as_slice.ensures.value at c.in-Some.ensures.place) c.put.ensures.set)
+
+pub returns-then-is_empty-clause-ok : goal.returns-then-is_empty-clause-ok
+returns-then-is_empty-clause-ok g c =
+    rw (← c.self.view_is, c.in_ok-push.ensures.items)
+    (insert_last (eq_by_cmp path_cmp) c.args.path c.args.value c.self.inside.few.items c.self.inside.many.entries (rw c.as_slice.ensures.value at c.in_default.ensures.place) (c.is_empty.ensures.0 c.if-is_empty.true))
+
+pub returns-clause-ok : goal.returns-clause-ok
+returns-clause-ok g c =
+    rw (← c.self.view_is, c.in_ok-insert.ensures.entries)
+    (sym (insert_rest (eq_by_cmp path_cmp) c.args.path c.args.value c.self.inside.few.items c.self.inside.many.entries (rw c.as_slice.ensures.value at c.in_default.ensures.place)))

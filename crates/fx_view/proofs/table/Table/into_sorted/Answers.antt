@@ -1,0 +1,12 @@
+use Rattle.std.proofs.Common.{rules}
+use Rattle.std.proofs.lemmas.List.MinMax.{ranks_by}
+use Rattle.std.proofs.lemmas.List.Sorted.{answers_always}
+use Rattle.fx_store.specs.Orders.{path_total}
+use Rattle.fx_view.proofs.Few.{sorted_keys, all_moved}
+use Rattle.fx_view.proofs.table.Table.into_sorted.Goals as goal
+
+pub returns-clause-same : goal.returns-clause-same
+returns-clause-same g c = all_moved c.loop-path.entries.items c.loop-path.path-iterator c.args.self c.sort_unstable_by.new.self.items c.loop-path.invariant c.in-None.ensures.steps.0 c.sort_unstable_by.ensures.permutation
+
+pub returns-clause-sorted : goal.returns-clause-sorted
+returns-clause-sorted g c = sorted_keys path_total c.sort_unstable_by.new.self.items (c.sort_unstable_by.ensures.sorted _ (ranks_by path_total (λ e. e.0)) (answers_always _ _ _ (λ f a r f' k. search rules)))

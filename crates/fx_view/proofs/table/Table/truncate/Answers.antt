@@ -1,0 +1,6 @@
+use Rattle.std.proofs.Common.{sym, arith}
+use Rattle.fx_view.proofs.Few.{take_joined}
+use Rattle.fx_view.proofs.table.Table.truncate.Goals as goal
+
+pub returns : goal.returns
+returns g c = rw (← c.self.view_is, c.truncate.ensures.items, c.truncate-2.ensures.entries) (sym (take_joined c.self.inside.few.items c.self.inside.many.entries c.args.len _ (omega arith)))
