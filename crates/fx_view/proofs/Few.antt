@@ -8,6 +8,7 @@ use Rattle.std.specs.List.{AllByRecursion, IsDistinct, position_or_len}
 use Rattle.std.specs.List.Sorted.{IsPermutation, IsSorted, IsSortedBy}
 use Rattle.std.specs.Map.{lookup, keys_of}
 use Rattle.std.proofs.lemmas.List.{append-nil, length-map}
+use Rattle.std.proofs.lemmas.List.Elements.{Contains-append_right}
 use Rattle.std.proofs.lemmas.List.Sorted.{IsPermutation-map, IsPermutation-sym, Contains-permutation}
 use Rattle.std.proofs.lemmas.Map.Keys.{IsDistinct-IsPermutation}
 use Rattle.std.proofs.lemmas.Map.Views.{lookup-from_Contains, Contains-from_lookup}
@@ -82,6 +83,9 @@ module _ {K X : Type 0} (is : K → Bool) where
       at true none rest = cc
       at false none rest = omega (arith, rest none)
 
+  pub lookup_neither : (es ys : List (K × X)) → lookup is es ≡ None → None ≡ lookup is ys → None ≡ lookup is (es ++ ys)
+  lookup_neither es ys none other = other ∙ sym (lookup_rest es ys none)
+
   pub lookup_none : (es ys : List (K × X)) → lookup is es ≡ None → length ys ≡ 0 → None ≡ lookup is (es ++ ys)
   lookup_none es [] none empty = sym (lookup_rest es [] none)
   lookup_none es (y ∷ ys) none empty = absurd (omega arith)
@@ -140,6 +144,22 @@ module _ {K X : Type 0} (eq : K → K → Bool) (k : K) (v : X) where
   insert_last es [] none empty = append-nil (es ++ (k, v) ∷ []) ∙ sym (insert_rest es [] none)
   insert_last es (y ∷ ys) none empty = absurd (omega arith)
 
+  -- a new entry comes last
+  insert_new : (es : List (K × X)) → lookup (eq k) es ≡ None → insert_entry eq es k v ≡ es ++ (k, v) ∷ []
+  insert_new es none = ap (λ zs. insert_entry eq zs k v) (sym (append-nil es)) ∙ insert_rest es [] none
+
+  pub push_rest : (es ys : List (K × X)) → lookup (eq k) (es ++ ys) ≡ None → es ++ insert_entry eq ys k v ≡ (es ++ ys) ++ (k, v) ∷ []
+  push_rest [] ys none = insert_new ys none
+  push_rest (x ∷ xs) ys none = at (eq k x.0) none (push_rest xs ys)
+    where
+      at : (b : Bool) → cond b (Some x.1) (lookup (eq k) (xs ++ ys)) ≡ None → (lookup (eq k) (xs ++ ys) ≡ None → xs ++ insert_entry eq ys k v ≡ (xs ++ ys) ++ (k, v) ∷ []) → (x ∷ xs) ++ insert_entry eq ys k v ≡ ((x ∷ xs) ++ ys) ++ (k, v) ∷ []
+      at true none rest = absurd (cc)
+      at false none rest = ap (λ zs. x ∷ zs) (rest none)
+
+  pub push_first : (es ys : List (K × X)) → length ys ≡ 0 → (es ++ (k, v) ∷ []) ++ ys ≡ (es ++ ys) ++ (k, v) ∷ []
+  push_first es [] empty = append-nil (es ++ (k, v) ∷ []) ∙ ap (λ zs. zs ++ (k, v) ∷ []) (sym (append-nil es))
+  push_first es (y ∷ ys) empty = absurd (omega arith)
+
 -- ---- a read at another position
 
 module _ (position : ℕ) where
@@ -171,6 +191,10 @@ module _ {K X : Type 0} {eq : K → K → Bool} (laws : IsEquivalence eq) where
       by None e None h = refl
       by None e (Some w) h = sym (moved_some exact ys xs q w (IsPermutation-sym xs ys moved) once h) ∙ e
       by (Some v) e r h = sym h ∙ moved_some exact xs ys q v moved now e
+
+  -- an entry of the second list is found, since no other has its key
+  pub lookup_last : ((x y : K) → eq x y ≡ true → x ≡ y) → (es ys : List (K × X)) (q : K) (v : X) → IsDistinct eq (keys_of (es ++ ys)) → Some v ≡ lookup (eq q) ys → Some v ≡ lookup (eq q) (es ++ ys)
+  lookup_last exact es ys q v once found = sym (lookup-from_Contains laws q v (es ++ ys) once (Contains-append_right es ys (q, v) (Contains-from_lookup exact q v ys (sym found))))
 
 -- ---- entries in the order of their keys
 

@@ -103,7 +103,7 @@ impl Reads {
         ensures ok { OnOk result (self.new ≡ self.old ++ (path, (node, position)) ∷ []) }
         ensures err { OnErr result (self.new ≡ self.old) }
     {
-        self.table.insert(path, (node, position))?;
+        self.table.push(path, (node, position))?;
         Ok(())
     }
 

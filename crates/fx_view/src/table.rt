@@ -1,6 +1,6 @@
 //! Values by path: a short list while there are few, and a map for what comes then.
 ghost use Rattle.std.specs.Prelude.{◌≡◌, ◌<◌, ◌↔◌, ◌++◌, ◌∷◌, [], None, IsTrue, length, take, slice_get, slice_set, IfOk, IfSome, MatchOption, OnOk, OnErr, option_copied, option_map, List, ℕ};
-ghost use Rattle.std.specs.List.{position_or_len};
+ghost use Rattle.std.specs.List.{IsDistinct, position_or_len};
 ghost use Rattle.std.specs.List.Sorted.{IsPermutation, IsSorted};
 ghost use Rattle.std.specs.Map.{lookup, keys_of};
 ghost use Rattle.std.specs.Map.Iter.{deref_pair};
@@ -76,18 +76,19 @@ impl<V> Table<V> {
         self.many.get_index(i - few.len())
     }
 
-    /// The value of a path, if it has one.
+    /// The value of a path, if it has one. No two entries may have the same path.
     pub(crate) fn get(&self, path: &Path) -> Option<&V>
+        requires { IsDistinct (eq_by_cmp path_cmp) (keys_of self.now) }
         ensures { option_copied result ≡ lookup (eq_by_cmp path_cmp path.now) self.now }
     {
+        if let Some(value) = value_in(&self.many, path) {
+            return Some(value);
+        }
         let few = self.few.as_slice();
-        if let Some(i) = place_in(few, path) {
-            return Some(&few[i].1);
+        match place_in(few, path) {
+            Some(i) => Some(&few[i].1),
+            None => None,
         }
-        if self.many.is_empty() {
-            return None;
-        }
-        self.many.get(path)
     }
 
     /// How many entries come before the path's; all of them where it has none.
@@ -105,6 +106,22 @@ impl<V> Table<V> {
             Some(i) => self.few.len() + i,
             None => len,
         }
+    }
+
+    /// Adds the value of a path that has none yet. A refusal changes nothing.
+    pub(crate) fn push(&mut self, path: Path, value: V) -> Result<(), NoMemory>
+    where
+        V: Drop,
+        requires { lookup (eq_by_cmp path_cmp path) self.old ≡ None }
+        ensures ok { OnOk result (self.new ≡ self.old ++ (path, value) ∷ []) }
+        ensures err { OnErr result (self.new ≡ self.old) }
+    {
+        if self.few.len() < FEW && self.many.is_empty() {
+            self.few.push((path, value))?;
+            return Ok(());
+        }
+        let_go(self.many.insert(path, value)?);
+        Ok(())
     }
 
     /// Sets the value of a path: a path that has one keeps its place, and a new one comes last. A refusal changes nothing.
@@ -167,6 +184,16 @@ impl Table<(Option<Node>, u64)> {
             self.many[i - few].1 = position;
         }
     }
+}
+
+/// The value of a path in a map. Most maps are empty, and cost no hash then.
+fn value_in<'a, V>(many: &'a IndexMap<Path, V>, path: &Path) -> Option<&'a V>
+    ensures { option_copied result ≡ lookup (eq_by_cmp path_cmp path.now) many.now.entries }
+{
+    if many.is_empty() {
+        return None;
+    }
+    many.get(path)
 }
 
 /// The place of a path in a list.
