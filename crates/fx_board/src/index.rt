@@ -21,7 +21,10 @@ pub(crate) fn stale<'a>(index: &IndexMap<Path, u64>, reads: &'a Reads) -> Option
     ensures reads { IsReads reads.now }
 {
     let mut least = None;
-    for (path, read) in reads.iter() {
+    for i in 0..reads.len() {
+        let Some((path, read)) = reads.at(i) else {
+            unreachable!()
+        };
         least = with_read(index, least, path, read.1);
     }
     least

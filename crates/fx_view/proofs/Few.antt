@@ -1,5 +1,5 @@
 -- Entries whose first ones stand in a list of their own.
-use Rattle.std.proofs.Common.{◌≡◌, ℕ, zero, suc, ◌+◌, ◌-◌, ◌<◌, not, Bool, true, false, cond, List, [], ◌∷◌, ◌++◌, length, take, drop, get_or, slice_get, slice_set, Option, Some, None, is_some, refl, sym, ap, subst, ◌∙◌, arith, add-one, drop-cons}
+use Rattle.std.proofs.Common.{◌≡◌, ℕ, zero, suc, ◌+◌, ◌-◌, ◌<◌, not, Bool, true, false, cond, List, [], ◌∷◌, ◌++◌, length, take, drop, get_or, slice_get, slice_set, Option, Some, None, is_some, refl, sym, ap, subst, ◌∙◌, arith}
 use Rattle.std.specs.Prelude.{position, nat_lt}
 use Rattle.std.specs.Cmp.{IsEquivalence, IsTotalOrder}
 use Rattle.std.specs.Ordering.{is_lt}
@@ -7,13 +7,14 @@ use Rattle.std.specs.declared.cmp.Ordering.{Ordering}
 use Rattle.std.specs.List.{AllByRecursion, IsDistinct, position_or_len}
 use Rattle.std.specs.List.Sorted.{IsPermutation, IsSorted, IsSortedBy}
 use Rattle.std.specs.Map.{lookup, keys_of}
-use Rattle.std.proofs.lemmas.List.{append-nil, length-map}
+use Rattle.std.proofs.lemmas.List.{append-nil, get_or-map}
 use Rattle.std.proofs.lemmas.List.Elements.{Contains-append_right}
 use Rattle.std.proofs.lemmas.List.Sorted.{IsPermutation-map, IsPermutation-sym, Contains-permutation}
 use Rattle.std.proofs.lemmas.Map.Keys.{IsDistinct-IsPermutation}
 use Rattle.std.proofs.lemmas.Map.Views.{lookup-from_Contains, Contains-from_lookup}
 use Rattle.std.proofs.lemmas.Option.{same_Some}
 use Rattle.indexmap.specs.IndexMap.{insert_entry}
+use Rattle.fx_base.proofs.Lists.{at_index, drop_next, length_keys, not_past}
 use Rattle.fx_store.specs.declared.node.Node.{Node}
 use Rattle.fx_view.specs.Few.{IsFirst}
 use Rattle.fx_view.specs.ReadList.{ReadList}
@@ -33,18 +34,15 @@ module _ {K X : Type 0} (is : K → Bool) where
     pub first : (k : ℕ) → IsFirst is (drop i es) k → IsFirst is es (i + k)
     pub found : lookup is es ≡ lookup is (drop i es)
 
-  split_at : (es : List (K × X)) (i : ℕ) (e : K × X) → i < length es → e ≡ get_or es i e → drop i es ≡ e ∷ drop (i + 1) es
-  split_at es i e within at = rw (add-one) (drop-cons es i e within ∙ ap (λ (x : K × X). x ∷ drop (suc i) es) (sym at))
-
   pub sought_here : (es : List (K × X)) (i : ℕ) (e : K × X) → Sought es i → i < length es → e ≡ get_or es i e → is e.0 ≡ true → IsFirst is es i
   sought_here es i e sought within at passes =
-      let here : IsFirst is (drop i es) 0 = subst (λ (xs : List (K × X)). IsFirst is xs 0) (sym (split_at es i e within at)) passes in
+      let here : IsFirst is (drop i es) 0 = subst (λ (xs : List (K × X)). IsFirst is xs 0) (sym (drop_next es i e (at_index es i e within at))) passes in
       let same : i + 0 ≡ i = omega arith in
       subst (IsFirst is es) same (sought.first 0 here)
 
   pub sought_next : (es : List (K × X)) (i : ℕ) (e : K × X) → Sought es i → i < length es → e ≡ get_or es i e → is e.0 ≡ false → Sought es (i + 1)
   sought_next es i e sought within at fails =
-      let split = split_at es i e within at in record {
+      let split = drop_next es i e (at_index es i e within at) in record {
         first = λ k h.
             let further : i + suc k ≡ (i + 1) + k = omega arith in
             subst (IsFirst is es) further (sought.first (suc k) (subst (λ (xs : List (K × X)). IsFirst is xs (suc k)) (sym split) (fails, h)));
@@ -64,6 +62,11 @@ module _ {K X : Type 0} (is : K → Bool) where
   place_first (x ∷ xs) ys (suc i) first =
       let rest = place_first xs ys i first.1 in
       ap (λ b. cond (not b) (1 + position_or_len is (keys_of (xs ++ ys))) 0) first.0 ∙ omega (arith, rest)
+
+  pub first_within : (es : List (K × X)) (i : ℕ) → IsFirst is es i → i < length es
+  first_within [] i first = absurd first
+  first_within (x ∷ xs) zero first = omega arith
+  first_within (x ∷ xs) (suc i) first = let rest = first_within xs i first.1 in omega (arith, rest)
 
   -- ---- no entry in the first list
 
@@ -110,11 +113,6 @@ module _ {K X : Type 0} (is : K → Bool) where
 -- ---- an entry that is set
 
 module _ {K X : Type 0} (eq : K → K → Bool) (k : K) (v : X) where
-  none_first : (es : List (K × X)) (i : ℕ) → IsFirst (eq k) es i → slice_get es i ≡ None → ⊥
-  none_first [] i first none = first
-  none_first (x ∷ xs) zero first none = absurd (cc)
-  none_first (x ∷ xs) (suc i) first none = none_first xs i first.1 none
-
   set_first : (es ys : List (K × X)) (i : ℕ) (e : K × X) → IsFirst (eq k) es i → slice_get es i ≡ Some e → insert_entry eq (es ++ ys) k v ≡ slice_set es i (e.0, v) ++ ys
   set_first [] ys i e first at = absurd first
   set_first (x ∷ xs) ys zero e first at =
@@ -128,7 +126,7 @@ module _ {K X : Type 0} (eq : K → K → Bool) (k : K) (v : X) where
   insert_first es ys new i first put = by (slice_get es i) refl
     where
       by : (o : Option (K × X)) → slice_get es i ≡ o → new ++ ys ≡ insert_entry eq (es ++ ys) k v
-      by None e = absurd (none_first es i first e)
+      by None e = absurd (not_past es i (first_within (eq k) es i first) e)
       by (Some e) at = ap (λ (zs : List (K × X)). zs ++ ys) (put e.0 e.1 at) ∙ sym (set_first es ys i e first at)
 
   pub insert_rest : (es ys : List (K × X)) → lookup (eq k) es ≡ None → insert_entry eq (es ++ ys) k v ≡ es ++ insert_entry eq ys k v
@@ -199,17 +197,12 @@ module _ {K X : Type 0} {eq : K → K → Bool} (laws : IsEquivalence eq) where
 -- ---- entries in the order of their keys
 
 module _ {K X : Type 0} {R : K → K → Ordering} (o : IsTotalOrder R) where
-  key_at : (es : List (K × X)) (i : ℕ) (k : K) (e : K × X) → i < length es → get_or (keys_of es) i k ≡ (get_or es i e).0
-  key_at [] i k e within = absurd (omega arith)
-  key_at (x ∷ xs) zero k e within = refl
-  key_at (x ∷ xs) (suc i) k e within = key_at xs i k e (omega arith)
-
   pub sorted_keys : (es : List (K × X)) → IsSortedBy (λ x y. is_lt (R x.0 y.0)) es → IsSorted R (keys_of es)
   sorted_keys [] sorted i k low high = absurd (omega arith)
   sorted_keys (x ∷ xs) sorted i k low high =
-      let long : length (keys_of (x ∷ xs)) ≡ length (x ∷ xs) = length-map (x ∷ xs) (λ (e : K × X). e.0) in
+      let long : length (keys_of (x ∷ xs)) ≡ length (x ∷ xs) = length_keys (x ∷ xs) in
       let high : i + 1 < length (x ∷ xs) = omega (arith, long) in
-      rw (key_at (x ∷ xs) (i + 1) k x high, key_at (x ∷ xs) i k x (omega arith)) (sorted i x low high)
+      rw (get_or-map (λ (e : K × X). e.0) (x ∷ xs) (i + 1) x k high, get_or-map (λ (e : K × X). e.0) (x ∷ xs) i x k (omega arith)) (sorted i x low high)
 
 -- the entries in another order, once all have come
 pub all_moved : {A : Type 0} (xs rest all ys : List A) → xs ++ rest ≡ all → rest ≡ [] → IsPermutation xs ys → IsPermutation all ys

@@ -16,7 +16,7 @@ use indexmap::IndexMap;
 use std::alloc::Global;
 use std::marker::Model;
 
-/// So many entries stand in the list at most: it takes one allocation, and a look at each costs less than a hash.
+/// So many entries stand in the list at most. A look at each of them costs about what a look into a map does.
 const FEW: usize = 8;
 
 /// Values by path. Contracts see the entries in the order in which their paths came. The first ones stay in the list, and
