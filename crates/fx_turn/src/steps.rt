@@ -20,7 +20,7 @@ use std::sync::Wait;
 use std::{hint, thread};
 
 /// How often a seat looks for the end of another's turn before its thread gives way. A turn is mostly over by then.
-const LOOKS: u32 = 32;
+const LOOKS: u32 = 100;
 
 fn unwrapped<K: Kept>(mut slots: Vec<Option<K>>) -> K
     requires { Holds slots.items }
