@@ -37,18 +37,8 @@ module _ {X : Type 0} where
       let next : suc k ≡ k + 1 = omega arith in
       ap joined (split_at cs k d lt) ∙ joined-append (take k cs) (get_or cs k d ∷ drop (suc k) cs) ∙ ap (λ n. joined (take k cs) ++ ((get_or cs k d).items ++ joined (drop n cs))) next
 
-  -- the items of all chunks are those before the last and its own
+  -- one chunk more, behind all of them
   module _ (cs : List (Piece X)) (all : AreChunks cs) where
-    pub last_len : (c : Piece X) → slice_get cs (length cs - 1) ≡ Some c → c.before + length c.items ≡ length (joined cs)
-    last_len c at =
-        let k : ℕ = length cs - 1 in
-        let lt : k < length cs = slice_get_within cs k c at in
-        let here : get_or cs k c ≡ c = get_or_from_slice_get cs k c c at in
-        let before : (get_or cs k c).before ≡ length (joined (take k cs)) = all.before k c lt in
-        let whole : joined cs ≡ joined (take k cs) ++ (get_or cs k c).items = sym (ap joined (take_all (k + 1) cs (omega arith))) ∙ joined_more cs k c lt in
-        let long = length-append (joined (take k cs)) (get_or cs k c).items in
-        (λ i. sym (ap (λ (c : Piece X). c.before) here) i + length (sym (ap (λ (c : Piece X). c.items) here) i)) ∙ ap (λ n. n + length (get_or cs k c).items) before ∙ sym long ∙ ap length (sym whole)
-
     pub more : (c : Piece X) → c.before ≡ length (joined cs) → length (joined cs) + length c.items < 2 ^ 63 → AreChunks (cs ++ c ∷ [])
     more c at few = record {
       before = λ k d lt. before k d lt (cases_lt k (length cs));
@@ -172,9 +162,6 @@ module _ {X : Type 0} where
         ∙ sym (remove-append_right (joined (take k cs)) (c.items ++ joined (drop (k + 1) cs)) c.before i starts from_start)
         ∙ ap (λ ys. remove ys i) (sym parts)
 
-  pub no_chunks : AreChunks {X = X} []
-  no_chunks = record { before = λ k d lt. absurd (omega arith); few = omega arith }
-
   -- where no chunk is there, there is none
   pub none_there : (cs : List (Piece X)) (i k : ℕ) → IsChunkOf cs i k → slice_get cs k ≡ None → joined cs ≡ []
   none_there [] i k at none = refl
@@ -187,7 +174,3 @@ module _ {X : Type 0} where
 
   pub cut : (old xs ys zs : List X) (n : ℕ) → ys ≡ take n xs → zs ≡ drop n xs → (old ++ ys) ++ zs ≡ old ++ xs
   cut old xs ys zs n front back = append_assoc old ys zs ∙ ap (λ ws. old ++ ws) ((λ i. front i ++ back i) ∙ take-append-drop n xs)
-
-  pub none_len : (cs : List (Piece X)) → slice_get cs (length cs - 1) ≡ None → 0 ≡ length (joined cs)
-  none_len [] at = refl
-  none_len (c ∷ cs) at = absurd (none-some _ (sym at ∙ slice_get-get_or (c ∷ cs) (length (c ∷ cs) - 1) c (omega arith)))

@@ -1,5 +1,5 @@
 -- A binary search of an ascending list that is read item by item.
-use Rattle.std.proofs.Common.{◌≡◌, ℕ, ◌+◌, ◌<◌, ◌≤◌, ◌⊎◌, true, false, List, length, get_or, refl, ap, sym, subst, ◌∙◌, inl, inr, arith}
+use Rattle.std.proofs.Common.{◌≡◌, ℕ, ◌+◌, ◌<◌, ◌≤◌, ◌⊎◌, true, false, List, length, get_or, refl, subst, ◌∙◌, inl, inr, arith}
 use Rattle.std.specs.declared.cmp.Ordering.{Ordering}
 use Rattle.std.specs.declared.cmp.Ordering.TheVariants.{Less, Equal, Greater}
 use Rattle.std.specs.List.{AllWithin, HoldsAt}
@@ -53,14 +53,3 @@ module _ {X : Type 0} (ord : X → Ordering) (xs : List X) where
     λ k d a b. bottom _ (subst (λ (o : Ordering). ordering_index (ord (get_or xs k d)) ≤ ordering_index o) (p d) (up k base d (omega arith) in')),
     λ k d a b. n.high up k d (omega arith) b,
   )
-
-  pub at_Greater : (base size : ℕ) → Narrowed base size → HoldsAt (λ y. ord y ≡ Greater) xs base
-      → IsNonDecreasingBy (λ y. ordering_index (ord y)) xs → IsPartitionPoint (λ y. ord y ≡ Less) (λ y. ord y ≡ Greater) xs base
-  at_Greater base size n p up = (
-    λ k d a b. first k d b n.low,
-    from_Greater base base (omega arith) p up,
-  )
-    where
-      first : (k : ℕ) (d : X) → k < base → (base ≡ 0) ⊎ HoldsAt (λ y. is_gt (ord y) ≡ false) xs base → ord (get_or xs k d) ≡ Less
-      first k d b (inl e) = absurd (omega arith)
-      first k d b (inr q) = absurd (false≢true (sym (q d) ∙ ap is_gt (p d)))

@@ -151,12 +151,6 @@ reads_at (Some file) bytes r is reads = reads_same file.seen bytes r (same_readi
 pub reads_told : (old mid : DiskView) (bytes : List ℕ) (r : Result (List Pair) JournalFault) → IsAsTold old mid → IfSome mid.told (λ file. IsReadImage file.seen bytes) → ReadsOrder bytes r → IfSome old.told (λ file. ReadsOrder file.seen r)
 reads_told old mid bytes r same is reads = reads_at old.told bytes r (subst (λ t. IfSome t (λ file. IsReadImage file.seen bytes)) same is) reads
 
-pub unread_reads : (told : Option File) (e : JournalFault) → IsUnread e → IfSome told (λ file. ReadsOrder file.seen (Err e))
-unread_reads None e unread = tt
-unread_reads (Some file) (fault.Broken n) unread = absurd unread
-unread_reads (Some file) fault.Failed unread = tt
-unread_reads (Some file) fault.NoMemory unread = tt
-
 tells_at : (told : Option File) (path : List ℕ) (n : ℕ) → IfSome told (λ file. (file.path ≡ path) × (n ≡ length file.seen)) → IfSome told (λ file. file.path ≡ path)
 tells_at None path n answer = tt
 tells_at (Some file) path n answer = answer.0

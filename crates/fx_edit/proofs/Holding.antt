@@ -67,17 +67,6 @@ no_flag Tree.nothing e f = refl
 no_flag (Tree.some a) e f = refl
 no_flag (Tree.table rows) e f = refl
 
--- a truth value at a file
-pub flag_told : (v : Tree) (b : Bool) → truth_of v ≡ Some b → stored_node SpecTree.file v ≡ Ok (File [] b)
-flag_told (Tree.str t) b e = cc
-flag_told (Tree.int n) b e = cc
-flag_told (Tree.bool a) b e = let same : a ≡ b = cc in ap (λ (b : Bool). Ok (File [] b)) same
-flag_told (Tree.names ts) b e = cc
-flag_told (Tree.pair x y) b e = cc
-flag_told Tree.nothing b e = cc
-flag_told (Tree.some a) b e = cc
-flag_told (Tree.table rows) b e = cc
-
 no_texts : (v : Tree) → names_of v ≡ None → form_node SpecTree.dir v ≡ Err Refusal.WrongForm
 no_texts (Tree.str t) e = refl
 no_texts (Tree.int n) e = refl

@@ -9,7 +9,6 @@ use Rattle.fx_store.specs.declared.node.Node.{Node}
 use Rattle.fx_store.specs.declared.node.Node.TheVariants.{File, Dir, Link}
 use Rattle.fx_store.specs.declared.changes.Change.{Change}
 use Rattle.fx_store.specs.Changes.{changed_paths}
-use Rattle.fx_store.specs.Names.{has}
 use Rattle.fx_store.specs.Resolve.{◌/ₚ◌, is_full}
 use Rattle.fx_store.specs.Rule.{Ask, Answer, Look, ◌>>=◌, look_all}
 use Rattle.fx_expr.specs.Sets.{with_text}
@@ -155,7 +154,3 @@ module _ (path : Path) (names : List (List ℕ)) (begun so_far : List Change) (l
 
   pub files_end : left ≡ [] → so_far ≡ begun ++ map (file_at path) names
   files_end none = sym (append-nil so_far) ∙ (ap (λ ns. so_far ++ map (file_at path) ns) (sym none) ∙ is.rest)
-
-pub has_some : (names : List (List ℕ)) (n : List ℕ) → has names n ≡ true → 0 < length names
-has_some [] n e = cc
-has_some (x ∷ names) n e = omega arith

@@ -1,5 +1,5 @@
 -- Two sets of names, gone through side by side.
-use Rattle.std.proofs.Common.{◌≡◌, ℕ, ◌+◌, ◌<◌, ◌≤◌, Bool, true, false, ◌||◌, List, [], ◌∷◌, ◌++◌, length, drop, nat_eq, Result, Ok, Err, refl, sym, subst, ap, ◌∙◌, arith}
+use Rattle.std.proofs.Common.{◌≡◌, ℕ, ◌≤◌, Bool, true, false, ◌||◌, List, [], ◌∷◌, ◌++◌, length, drop, nat_eq, Result, Ok, Err, refl, sym, subst, ap, ◌∙◌, arith}
 use Rattle.std.specs.Prelude.{IsErrAnd}
 use Rattle.std.specs.declared.cmp.Ordering.TheVariants.{Less, Equal, Greater}
 use Rattle.std.specs.Ordering.{nat_cmp}
@@ -126,9 +126,6 @@ pub record IsRelisting {R L : Type 0} (m : Meaning R) (q old new : List (List �
   pub goes : (final : List Change) → Goes m (λ (u : Unit {0}). final) start now (adding begun (changed_entries q old new)) (adding so_far (changed_entries q a b))
 
 module _ {R L : Type 0} {m : Meaning R} {q old new : List (List ℕ)} {start : Session R L} {begun : List Change} where
-  pub relisting_first : IsRelisting m q old new start start begun begun old new
-  relisting_first = record { goes = λ final new r h. h }
-
   module _ {now : Session R L} {so_far : List Change} {a b : List (List ℕ)} (is : IsRelisting m q old new start now begun so_far a b) where
     module _ {n : List ℕ} {x y : Bool} (next : IsLeastName a b n x y) where
       pub relisting_next : {later : Session R L} {more : List Change} → Implements {X = Unit {0}} m (λ (u : Unit {0}). more) now later (adding so_far (change_at_name q n x y)) (Ok tt) → IsRelisting m q old new start later begun more (names_left x a) (names_left y b)
@@ -142,11 +139,6 @@ module _ {R L : Type 0} {m : Meaning R} {q old new : List (List ℕ)} {start : S
     relisting_ends none = goes_end (rest q a b so_far) (is.goes so_far) tt (none_left q a b so_far none)
 
 -- ---- what is left
-
--- a set that has the next name is not empty
-pub some_new : (y : Bool) (b new : List (List ℕ)) (n : List ℕ) → IsFirst y b n → length b ≤ length new → y ≡ true → 0 < length new
-some_new true b new n w few e = omega (arith, ap length w, few)
-some_new false b new n w few e = absurd (cc)
 
 fewer : (y : Bool) (b : List (List ℕ)) → length (names_left y b) ≤ length b
 fewer true [] = omega arith
@@ -165,9 +157,6 @@ left_after new a b n x y c d is next = record {
   news = subst (λ l. IsAscending l) (sym next.news) next.next.least.second;
   few = omega (arith, ap length next.news, fewer y b, is.few);
 }
-
-pub less_left : (a b : List (List ℕ)) (n : List ℕ) (x y : Bool) (c d : List (List ℕ)) → IsNextOf a b n x y c d → length c + length d < length a + length b
-less_left a b n x y c d next = omega (arith, ap length next.olds, ap length next.news, next.next.least.smaller)
 
 -- ---- the ways in which the next name is found
 

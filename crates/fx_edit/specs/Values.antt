@@ -1,7 +1,6 @@
 -- What a value holds for a node, and what calls say that make one.
-use Rattle.std.specs.Prelude.{◌≡◌, ℕ, Bool, cond, List, Option, Some, None, Result, Ok, Err}
+use Rattle.std.specs.Prelude.{◌≡◌, ℕ, cond, List, Result, Ok, Err}
 use Rattle.fx_store.specs.Names.{is_name}
-use Rattle.fx_expr.specs.Tree.{Tree}
 use Rattle.fx_spec.specs.declared.refusal.Refusal.{Refusal}
 use Rattle.fx_spec.specs.Move.{Answered}
 use Rattle.fx_view.specs.declared.reader.Stop.TheVariants as stop

@@ -1,26 +1,25 @@
 -- What stands in each state of a run of the case, and that each of its transactions is done there.
-use Rattle.std.proofs.Common.{◌≡◌, ◌≢◌, inl, inr, ℕ, zero, suc, ◌+◌, ◌*◌, ◌/◌, ◌%◌, ◌^◌, ◌<◌, ◌≤◌, Bool, true, false, cond, not, ◌||◌, ◌==◌, nat_eq, List, [], ◌∷◌, ◌++◌, length, get_or, Option, Some, None, refl, sym, ap, subst, ◌∙◌, arith, codes, length-append, eq-eqb}
+use Rattle.std.proofs.Common.{◌≡◌, ℕ, ◌+◌, ◌*◌, ◌/◌, ◌%◌, ◌^◌, ◌<◌, ◌≤◌, Bool, true, false, cond, not, ◌||◌, ◌==◌, nat_eq, List, [], ◌∷◌, ◌++◌, length, get_or, Option, Some, None, refl, sym, ap, subst, ◌∙◌, arith, codes, length-append, eq-eqb}
 use Rattle.std.specs.Prelude.{is_some}
 use mathlib.Core.Path.{fun_ext}
 use Rattle.std.specs.Fmt.{decimal}
-use Rattle.std.specs.FinMap.{get, len, len-insert, same_map, insert, contains_key}
+use Rattle.std.specs.FinMap.{get, len, len-insert, same_map, insert}
 use Rattle.std.specs.List.{count_by, sum_by}
 use Rattle.std.specs.Ordering.{eq_by_cmp}
-use Rattle.std.proofs.lemmas.Bool.{cases_eq, cases_Bool, ne_eqb, eqb-true, eqb-false, and_from}
-use Rattle.std.proofs.lemmas.List.Sums.{sum_by_push, sum_by-cons}
+use Rattle.std.proofs.lemmas.Bool.{ne_eqb, eqb-true, eqb-false, and_from}
+use Rattle.std.proofs.lemmas.List.Sums.{sum_by_push}
 use Rattle.fx_store.specs.declared.node.Node.{Node}
 use Rattle.fx_store.specs.declared.node.Node.TheVariants.{File, Dir}
 use Rattle.fx_store.specs.declared.changes.Change.{Change}
-use Rattle.fx_store.specs.Names.{path_cmp, name_cmp, IsNameSet, has}
+use Rattle.fx_store.specs.Names.{name_cmp, IsNameSet, has}
 use Rattle.fx_store.specs.Orders.{path_total, path_same}
 use Rattle.fx_store.specs.Resolve.{◌/ₚ◌}
 use Rattle.fx_store.specs.Whole.{Nodes, IsWhole, over, over_nodes, update, lists}
 use Rattle.fx_base.proofs.Names.{name_is}
 use Rattle.fx_base.proofs.Results.{none_of}
 use Rattle.fx_text.specs.declared.set.TheConstants.{UNION_LIMIT}
-use Rattle.fx_text.specs.Sets.{set_of, with_text, weight, IsWeighed}
+use Rattle.fx_text.specs.Sets.{set_of, with_text, weight}
 use Rattle.fx_text.proofs.Order.{ascending_one}
-use Rattle.fx_text.proofs.Putting.{set_turned, set_again}
 use Rattle.fx_text.proofs.Weights.{union_fits}
 use Rattle.fx_spec.specs.declared.refusal.End.{End}
 use Rattle.fx_spec.specs.CommandTree.{CommandTree}
@@ -34,13 +33,13 @@ use Rattle.fx_spec.proofs.EditsMake.{has-with}
 use Rattle.fx_spec.proofs.EditsWhole.{update_here, update_away}
 use Rattle.fx_spec.proofs.Tasks.{get-set_node, get-over_nodes, leaves_as_data}
 use Rattle.fx_spec.proofs.Transactions.{transactions_keep_whole}
-use Rattle.fx_machine.proofs.Sums.{sum_same, sum_apart}
+use Rattle.fx_machine.proofs.Sums.{sum_apart}
 use Rattle.fx_gen.specs.Draws.{draw}
 use Rattle.fx_gen.specs.Notes.{project, part_names, config}
 use Rattle.fx_gen.specs.Scripts.{tag, kind_of, project_of}
 use Rattle.fx_gen.specs.Trees.{description_tree, count_tree, log_tree, txn_tree}
 use Rattle.fx_laws_above.proofs.Adding.{length-with, union_is}
-use Rattle.fx_laws_above.proofs.Counting.{IsOne, number_of}
+use Rattle.fx_laws_above.proofs.Counting.{number_of}
 use Rattle.fx_laws_above.proofs.Steps.{Does, HasCount, count_does, log_does}
 use Rattle.fx_laws_above.proofs.Tags.{tag_short, tag_tells, tag_named}
 use Rattle.fx_laws_above.proofs.Walks.{count_path, log_path}
@@ -113,9 +112,6 @@ module _ (nodes : Nodes) (t : List CommandTree) (cs : List Change) (does : Does 
 
   left_whole : IsWhole (get nodes) → IsWhole (get (left_nodes description_tree t nodes))
   left_whole whole = subst IsWhole (sym (fun_ext (λ q. leaves_as_data description_tree t nodes q))) (transactions_keep_whole description_tree t (get nodes) whole)
-
-one_longer : (n m : ℕ) → n ≤ m → n ≤ m + 1
-one_longer n m h = omega (arith, h)
 
 -- ---- one transaction more
 

@@ -9,10 +9,6 @@ use Rattle.fx_lex.specs.Reading.{is_blank, is_within_line, IsLineEnd, IsGap}
 use Rattle.fx_lex.specs.Found.{IsFoundAt}
 use Rattle.fx_lex.proofs.Runs.{run_passes, run_starts, run_some}
 
-pub blank_found : (bytes : List ℕ) → 0 < length bytes → is_blank (get_or bytes 0 0) ≡ true → IsFoundAt bytes (found.Gap 1)
-blank_found [] some h = absurd (omega (arith, some))
-blank_found (b ∷ bytes) some h = (omega arith, omega (arith, some), inl (h, refl))
-
 -- behind the bytes of a line comes its end
 line_ends : (bytes : List ℕ) → IsLineEnd (drop (prefix_len is_within_line bytes) bytes)
 line_ends [] = tt

@@ -51,9 +51,6 @@ pub kind_digit : (b : ℕ) → is_digit b ≡ true → byte_kind b ≡ 3
 kind_digit b h =
     kind_above b (omega (arith, (digit_range b h).0)) ∙ cond-false (begins_word b) 2 _ (digit_no_word b h) ∙ cond-true (is_digit b) 3 _ h
 
-pub kind_quote : byte_kind 34 ≡ 4
-kind_quote = refl
-
 pub kind_blank : (b : ℕ) → is_blank b ≡ true → byte_kind b ≡ 0
 kind_blank b h = cond-true (is_blank b) 0 _ h
 

@@ -215,9 +215,6 @@ string_goes_on bytes at v n value so first =
       short = omega (arith, so.short, length-append value (v ∷ []), first.size, item_some first.item);
     }
 
-pub item_advances : (bytes : List ℕ) (v n : ℕ) → IsFirstItem bytes v n → 0 < n
-item_advances bytes v n first = omega (arith, first.size, item_some first.item)
-
 lexeme_string : (bytes : List ℕ) → LexemeOf 4 bytes → (value : List ℕ) × IsString bytes value
 lexeme_string bytes (inl w) = let e = w.0 in absurd cc
 lexeme_string bytes (inr (inl d)) = let e = d.0 in absurd cc

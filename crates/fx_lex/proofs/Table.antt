@@ -79,17 +79,8 @@ told false false false false false = (λ e. absurd cc, λ e. absurd cc, λ e. ab
 all_told : (b : ℕ) → Tells (byte_kind b) (is_blank b) (eqb b 35) (begins_word b) (is_digit b) (eqb b 34)
 all_told b = told (is_blank b) (eqb b 35) (begins_word b) (is_digit b) (eqb b 34)
 
-pub blank_told : (b : ℕ) → byte_kind b ≡ 0 → is_blank b ≡ true
-blank_told b = (all_told b).0
-
 pub comment_told : (b : ℕ) → byte_kind b ≡ 1 → b ≡ 35
 comment_told b e = eqb-true b 35 ((all_told b).1 e)
-
-pub word_told : (b : ℕ) → byte_kind b ≡ 2 → begins_word b ≡ true
-word_told b = (all_told b).2
-
-pub number_told : (b : ℕ) → byte_kind b ≡ 3 → is_digit b ≡ true
-number_told b = (all_told b).3
 
 pub string_told : (b : ℕ) → byte_kind b ≡ 4 → b ≡ 34
 string_told b e = eqb-true b 34 ((all_told b).4 e)

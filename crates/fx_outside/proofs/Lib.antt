@@ -1,5 +1,4 @@
 pub mod Sorted
-pub mod Lists
 pub mod Trees
 pub mod Whole
 pub mod Views

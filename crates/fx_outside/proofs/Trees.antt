@@ -44,9 +44,6 @@ insert_tree old new names entry updates = same_map parts_total parts_same _ _ (�
     ∙ ap (λ x. cond (eq_by_cmp parts_cmp q names) (Some entry) x) (sym (get_tree old q))
     ∙ sym (get-insert parts_total (tree_of old) names entry q))
 
-pub same_tree : (old new : List (Parts × Entry)) → new ≡ old → tree_of new ≡ tree_of old
-same_tree old new e = ap tree_of e
-
 pub in_folder_cmp : (folder : Parts) (m n : List ℕ) → parts_cmp (folder ++ m ∷ []) (folder ++ n ∷ []) ≡ name_cmp m n
 in_folder_cmp folder m n = same_front folder (m ∷ []) (n ∷ []) ∙ then_equal (name_cmp m n)
 

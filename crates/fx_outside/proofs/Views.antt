@@ -47,9 +47,6 @@ failed_in_back folder suits a b c reads failed = failed_back (FaultIn folder) su
 
 -- ---- what stands in a folder
 
-pub in_itself : (folder : List ℕ) → IsIn folder folder
-in_itself folder = inl refl
-
 pub in_below : (folder below : List ℕ) → IsIn folder (folder ++ 47 ∷ below)
 in_below folder below = inr (below, refl)
 
@@ -65,9 +62,6 @@ some_and P Q (Some x) map h = map x h
 -- a fault at a path of a folder is one in the folder
 pub fault_in : (folder path : List ℕ) (a b : HostView) → IsIn folder path → FaultAt path a b → FaultIn folder a b
 fault_in folder path a b is fault = record { rose = fault.rose; place = subst (λ o. IsSomeAnd o (IsIn folder)) (sym fault.place) is }
-
-pub fault_in_itself : (path : List ℕ) (a b : HostView) → FaultAt path a b → FaultIn path a b
-fault_in_itself path a b fault = fault_in path path a b (in_itself path) fault
 
 -- a fault in a folder of a folder is one in the outer one
 pub fault_in_outer : (folder below : List ℕ) (a b : HostView) → FaultIn (folder ++ 47 ∷ below) a b → FaultIn folder a b

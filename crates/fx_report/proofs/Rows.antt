@@ -28,10 +28,6 @@ pub sides : (es : List (List ℕ × Value)) → map entry_tree es ≡ zip (keys_
 sides [] = refl
 sides (e ∷ es) = ap (λ ts. entry_tree e ∷ ts) (sides es)
 
-pub sides_length : (es : List (List ℕ × Value)) → length (values_of es) ≡ length (keys_of es)
-sides_length [] = refl
-sides_length (e ∷ es) = ap suc (sides_length es)
-
 pub table_text : (es : List (List ℕ × Value)) → value_text (tree_of (Table es)) ≡ codes "[" ++ join_by row_text comma (zip (keys_of es) (map tree_of (values_of es))) ++ codes "]"
 table_text es =
     let tree : tree_of (Table es) ≡ Tree.table (rows (map entry_tree es)) = search (rules, the_lemmas) in

@@ -22,7 +22,7 @@ use Rattle.fx_run.specs.Course.{pursued, HasCome}
 use Rattle.fx_run.specs.Keeping.{AreKept}
 use Rattle.fx_run.specs.Finishing.{IsFinished, IsAttempt, Finishes}
 use Rattle.fx_machine.specs.Needs.{ReadsFit, Foretells}
-use Rattle.fx_run.specs.Running.{IsAttemptOf, KeepsOn, StoppedAt}
+use Rattle.fx_run.specs.Running.{KeepsOn, StoppedAt}
 use Rattle.fx_run.proofs.Explaining.{explained, next_needed, unread_needed, fit_again}
 use Rattle.fx_run.proofs.Foretelling.{foretells}
 
@@ -57,10 +57,6 @@ module _ {R : Type 0} (m : Meaning R) (base : BaseTree) (shell txn : ℕ) (t : L
   pub run_explained : (r : Result Attempt Stop) → Finishes m base.description t shell txn old new r → IfOk r (IsExplained base)
   run_explained (Ok a) is = attempt_explained a is
   run_explained (Err why) is = tt
-
-  pub run_attempted : (r : Result Attempt Stop) → Finishes m base.description t shell txn old new r → IfOk r (IsAttemptOf m old new shell txn)
-  run_attempted (Ok a) is = record { whose = is.whose; number = is.number; more = is.more; kept = is.kept; none = is.none; same = is.same; vouched = is.vouched }
-  run_attempted (Err why) is = tt
 
   pub run_foretold : (r : Result Attempt Stop) → Finishes m base.description t shell txn old new r → IfOk r (λ a. Foretells base (shell, txn) (m.reads old) a.reads)
   run_foretold (Ok a) is = foretells base (shell, txn) t planned (m.reads old) is.more a.reads is.kept is.came is.found is.order

@@ -1,5 +1,5 @@
 -- Calls that go by a rule, and what they say of a rule that changes its answer.
-use Rattle.std.proofs.Common.{◌≡◌, ◌++◌, Result, Ok, Err, refl, subst, sym}
+use Rattle.std.proofs.Common.{Result, Ok, Err, refl, subst, sym}
 use Rattle.std.specs.Prelude.{IfOk}
 use Rattle.fx_store.specs.Rule.{Known, Ask, Answer, ◌>>=◌}
 use Rattle.fx_view.specs.declared.reader.Stop.{Stop}
@@ -8,7 +8,6 @@ use Rattle.fx_view.specs.Follows.{GoesBy}
 use Rattle.fx_view.specs.Meaning.{Meaning}
 use Rattle.fx_view.specs.Own.{AreRead, own_at}
 use Rattle.fx_view.specs.OwnList.{OwnList}
-use Rattle.fx_view.specs.ReadList.{ReadList}
 use Rattle.fx_view.proofs.Calls.{went_by}
 use Rattle.fx_view.proofs.Owning.{read_more}
 use Rattle.fx_view.proofs.Rulings.{by_then_answer, by_stop}

@@ -17,4 +17,3 @@ pub mod Explaining
 pub mod Foretelling
 pub mod Planned
 pub mod Attempts
-pub mod Unread

@@ -3,10 +3,9 @@ use Rattle.std.proofs.Common.{◌≡◌, ℕ, Result, Ok, Err, refl, ap, ◌∙�
 use Rattle.fx_spec.specs.declared.refusal.Refusal.{Refusal}
 use Rattle.fx_spec.specs.Move.{Answered}
 use Rattle.fx_spec.specs.Task.{Task, Ends}
-use Rattle.fx_spec.specs.Transaction.{Standing, Flow, On, Over, or_stop}
+use Rattle.fx_spec.specs.Transaction.{Standing, Flow, Over, or_stop}
 use Rattle.fx_view.specs.declared.reader.Stop.TheVariants as stop
 use Rattle.fx_base.proofs.Errors.{err_of}
-use Rattle.fx_session.specs.declared.halt.Halt.TheVariants as halt
 use Rattle.fx_session.specs.declared.session.Session.{Session}
 use Rattle.fx_session.specs.Implements.{ticked}
 use Rattle.fx_run.specs.declared.walk.Walk.{Walk}
@@ -51,10 +50,6 @@ module _ {A : Type 0} (i : ℕ) (next : A → Task Flow) (o : Answered A) where
 
     pub quiet_part_leaves : {B X : Type 0} {r : Result (Unit {0}) Leave} (f : A → B) (view : X → B) (l : Leave) → OrStops {A = B} {X = X} i view (answer_part f o) (Err l) → Leaves r l → new.outputs ≡ old.outputs → IsQuiet (or_stop i (standing_of old) next o) old new r
     quiet_part_leaves f view l stops is printed = quiet_leaves {X = A} (λ a. a) l (part_stops f view (λ (a : A). a) l stops) is printed
-
-    -- it has one, with which the command ends
-    pub quiet_ends : (a : A) → o ≡ Ok a → next a ≡ Ends (On (standing_of new)) → IsQuiet (or_stop i (standing_of old) next o) old new (Ok tt)
-    quiet_ends a is e = record { ends = ap (or_stop i (standing_of old) next) is ∙ e; walk = same }
 
 -- the task goes on with a part of the value
 pub of_part : {A B : Type 0} (i : ℕ) (s : Standing) (f : A → B) (o : Answered A) (b : B) (next : B → Task Flow) → answer_part f o ≡ Ok b → or_stop i s (λ a. next (f a)) o ≡ next b

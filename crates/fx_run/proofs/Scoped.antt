@@ -18,33 +18,15 @@ use Rattle.fx_spec.proofs.Scoped.{bind_has, set_has, cut_has}
 use Rattle.fx_zip.specs.declared.question.Question.{Question}
 use Rattle.fx_zip.specs.declared.question.Question.TheVariants as question
 use Rattle.fx_zip.specs.Asking.{asked_shape}
-use Rattle.fx_run.specs.Acts.{HasAct}
 use Rattle.fx_run.specs.Asking.{ask_command}
 use Rattle.fx_run.specs.declared.leave.Leave.{Leave}
 use Rattle.fx_run.specs.Scopes.{HasBlock, HasCommand, HasTurn, OpensScope, Scopes, ScopesBlock, KeepsVariables, KeepsTurn}
-
--- ---- values that are bound, and bound again
 
 -- ---- what a command's own parts need
 
 module _ (vars : Bindings) where
   expr_shaped : (scope : Scope) (s : ShapeTree) (e : ExprTree) → BindingsHave vars scope → HasShape scope e s → IsWellShaped vars e
   expr_shaped scope s e b h = record { shapes = scope; shape = s; bindings = b; expression = h }
-
-  pub print_shaped : (e : ExprTree) → HasCommand vars (CommandTree.print e) → IsWellShaped vars e
-  print_shaped e h = expr_shaped h.next.scope h.next.shaped.0.0 e h.next.bindings h.next.shaped.0.1
-
-  pub bind_shaped : (x : List ℕ) (e : ExprTree) → HasCommand vars (CommandTree.bind x e) → IsWellShaped vars e
-  bind_shaped x e h = expr_shaped h.next.scope h.next.shaped.0 e h.next.bindings h.next.shaped.1
-
-  pub assign_shaped : (x : List ℕ) (e : ExprTree) → HasCommand vars (CommandTree.assign x e) → IsWellShaped vars e
-  assign_shaped x e h = expr_shaped h.next.scope h.next.shaped.0 e h.next.bindings h.next.shaped.1
-
-  pub act_shaped : (a : ActTree) → HasCommand vars (CommandTree.act a) → HasAct vars a
-  act_shaped a h = record { scope = h.next.scope; bindings = h.next.bindings; shaped = h.next.shaped.0 }
-
-  pub attempt_shaped : (x : List ℕ) (a : ActTree) → HasCommand vars (CommandTree.attempt x a) → HasAct vars a
-  attempt_shaped x a h = record { scope = h.next.scope; bindings = h.next.bindings; shaped = h.next.shaped.0 }
 
   pub branch_shaped : (e : ExprTree) (a b : Block) → HasCommand vars (CommandTree.branch e a b) → IsWellShaped vars e
   branch_shaped e a b h = expr_shaped h.next.scope ShapeTree.bool e h.next.bindings h.next.shaped.0
@@ -93,9 +75,6 @@ module _ (old new : Bindings) where
   scopes_assign x e v is put scope rest b h =
       opens_same scope new rest (subst (λ n. BindingsHave n scope) (sym put) (set_has old scope x v h.0 b h.2 (outcome_has (eval_of old e) v h.0 is (eval_has scope old e h.0 b h.1)))) h.3
 
-  pub scopes_print : (e : ExprTree) → new ≡ old → Scopes (CommandTree.print e) old new (Ok tt)
-  scopes_print e same scope rest b h = opens_same scope new rest (subst (λ n. BindingsHave n scope) (sym same) b) h.1
-
   pub scopes_attempt : (x : List ℕ) (a : ActTree) (n : ℕ) → new ≡ bind old x (Tree.int (pos n)) → Scopes (CommandTree.attempt x a) old new (Ok tt)
   scopes_attempt x a n bound scope rest b h = opens_bound scope old new rest x (Tree.int (pos n)) ShapeTree.int b refl bound h.2
 
@@ -108,19 +87,6 @@ module _ (old new : Bindings) where
     on : (P Q : Type 0) (r : Result (Unit {0}) Leave) → (P → Q) → IfOk r (λ _. P) → IfOk r (λ _. Q)
     on P Q (Ok u) f h = f h
     on P Q (Err l) f h = tt
-
-    pub scopes_act : (a : ActTree) → new ≡ old → Scopes (CommandTree.act a) old new r
-    scopes_act a same scope rest b h = at r
-      where
-        at : (r : Result (Unit {0}) Leave) → IfOk r (λ _. OpensScope scope new rest)
-        at (Ok u) = opens_same scope new rest (subst (λ n. BindingsHave n scope) (sym same) b) h.1
-        at (Err l) = tt
-
-    pub scopes_yes : (e : ExprTree) (y n : Block) → KeepsVariables y old new r → Scopes (CommandTree.branch e y n) old new r
-    scopes_yes e y n keeps scope rest b h = on (BindingsHave new scope) (OpensScope scope new rest) r (λ c. opens_same scope new rest c h.3) (keeps scope b h.1)
-
-    pub scopes_no : (e : ExprTree) (y n : Block) → KeepsVariables n old new r → Scopes (CommandTree.branch e y n) old new r
-    scopes_no e y n keeps scope rest b h = on (BindingsHave new scope) (OpensScope scope new rest) r (λ c. opens_same scope new rest c h.3) (keeps scope b h.2)
 
     pub scopes_each : (x : List ℕ) (e : ExprTree) (a : Block) → KeepsTurn x a old new r → Scopes (CommandTree.each x e a) old new r
     scopes_each x e a keeps scope rest b h = on (BindingsHave new scope) (OpensScope scope new rest) r (λ c. opens_same scope new rest c h.3) (keeps scope b h.2)

@@ -2,7 +2,6 @@
 use Rattle.std.specs.Prelude.{◌≡◌, List, [], Result, Ok, Err}
 use Rattle.std.specs.Option.{unwrap_or}
 use Rattle.fx_store.specs.Rule.{Ask}
-use Rattle.fx_store.specs.declared.changes.Change.{Change}
 use Rattle.fx_spec.specs.declared.refusal.End.{End}
 use Rattle.fx_spec.specs.SpecTree.{SpecTree}
 use Rattle.fx_spec.specs.CommandTree.{CommandTree}

@@ -4,10 +4,10 @@ ghost use Rattle.fx_run.specs.Asking.{ask_command};
 ghost use Rattle.fx_run.specs.Scopes.{Scopes};
 ghost use Rattle.fx_run.specs.Works.{IsSound, Obeys, root_of, standing_of};
 
-use crate::binding::bind_value;
 use crate::leave::{Leave, or_stop};
 use crate::work::Work;
 use fx_expr::Word;
+use fx_session::bind_value;
 use fx_view::Reader;
 use fx_zip::Question;
 use std::sync::ledger::Ledger;

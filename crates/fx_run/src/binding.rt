@@ -2,7 +2,7 @@
 ghost use Rattle.std.specs.Prelude.{◌≡◌, IfOk, pos};
 ghost use Rattle.fx_expr.specs.Bindings as bindings;
 ghost use Rattle.fx_expr.specs.Tree.{Tree};
-ghost use Rattle.fx_expr.specs.Views.{expr_tree, tree_of};
+ghost use Rattle.fx_expr.specs.Views.{expr_tree};
 ghost use Rattle.fx_spec.specs.CommandTree.{CommandTree};
 ghost use Rattle.fx_spec.specs.Transaction.{run};
 ghost use Rattle.fx_run.specs.Scopes.{HasCommand, Scopes};
@@ -13,23 +13,10 @@ use crate::leave::Leave;
 use crate::work::Work;
 use fx_base::NoMemory;
 use fx_expr::{Env, Expr, Text, Value, Word};
+use fx_session::bind_value;
 use fx_view::Reader;
 use std::alloc::Global;
 use std::sync::ledger::Ledger;
-
-/// Binds a word to a value.
-pub(crate) fn bind_value(
-    alloc: Global,
-    variables: &mut Env,
-    word: &Word,
-    value: Value,
-) -> Result<(), NoMemory>
-    ensures { IfOk result (λ _.
-        variables.new ≡ bindings.bind variables.old word.now (tree_of value)) }
-{
-    let word = word.copy(alloc)?;
-    variables.add(alloc, (word, value))
-}
 
 /// Binds a word to a text.
 pub(crate) fn bind_text(

@@ -352,11 +352,6 @@ module _ (log new : Log) (number : ℕ) (s : Shell) (is : IsShell log number s) 
       let next : s.next + 1 ≡ next_number (settled log number s.next).order number = add-one s.next ∙ own_next log number s.next is.next in
       subst (λ o. IsShell new number (shell_of (s.next + 1) 0 reads o retries)) (sym none) (subst (λ log. IsShell log number (shell_of (s.next + 1) 0 reads None retries)) (sym grown) (fresh_shell (settled log number s.next) number (s.next + 1) reads retries next))
 
-  -- it starts again
-  pub restarted_shell : (reads : ReadList) → new ≡ log → IsShell new number (shell_of s.next 0 reads o retries)
-  restarted_shell reads same =
-      subst (λ o. IsShell new number (shell_of s.next 0 reads o retries)) (sym none) (subst (λ log. IsShell log number (shell_of s.next 0 reads None retries)) (sym same) (fresh_shell log number s.next reads retries is.next))
-
   -- it has its looks back
   pub refused_shell : (reads : ReadList) → new ≡ log → reads ≡ s.reads → IsShell new number (shell_of s.next s.looked reads o retries)
   refused_shell reads same r =

@@ -15,7 +15,7 @@ use Rattle.fx_sched.specs.declared.taking.Ended.{Ended}
 use Rattle.fx_sched.specs.declared.taking.Ended.TheVariants as ended
 use Rattle.fx_sched.specs.Left.{SomeLeft}
 use Rattle.fx_sched.specs.Running.{Running}
-use Rattle.fx_sched.specs.Recorded.{Play, IsRecording, RunsBy, HadTurns, HadRounds, joined}
+use Rattle.fx_sched.specs.Recorded.{Play, IsRecording, RunsBy, HadTurns, joined}
 use Rattle.fx_sched.specs.Taking.{HadSome, a_start, AfterPlay, HadTurnsWith, HadRoundsWith, HasPaused, IsPlayed, HasStopped, HasEnded, HadAllWith, TookTurns, TookRounds, TookAll}
 use Rattle.fx_sched.specs.World.{began, Leads}
 use Rattle.fx_sched.proofs.Records.{begun, stepped, idled, runs_none, runs_then, had_none, had_then, Rounds, rounds_none, rounds_more, rounds_over, recorded_more}
@@ -52,9 +52,6 @@ some_round p q c r left t = record {
   events = t.events ∙ ap (λ es. es ++ t.more) r.events ∙ append_assoc p.events r.more t.more;
   begins = r.begins t.more (subst (λ base. BeginsTurns base q.events [] t.more) r.base (next_round left.shell (recorded_more q r.recording left.shell ∙ left.left) t.begins));
 }
-
-some_rounds : (p q : Play) → HadRounds p q → HadSome p [] q
-some_rounds p q had = record { recording = had.recording; base = had.base; more = had.more; events = had.events; begins = had.begins }
 
 -- ---- turns in a row
 
@@ -226,15 +223,6 @@ module _ {T : Type 0} (took : T → List Event → Running → Type 0) where
         record { play = t.play; there = t.there; taken = t.taken; between = h.play; turns = h.had; rounds = t.had }
     took_behind p schedule mid world before taker (Err why) h end =
         subst (λ turns. HasEnded took refused p turns world taker why) (append-nil schedule) (ended_then p h.play schedule [] world taker why h.had end)
-
-  -- the whole run, which no memory was left to answer
-  pub paused_behind : (p : Play) (schedule : List ℕ) (world : Running) (taker : T) → HadAllWith took p schedule world taker → HasPaused took p schedule world taker
-  paused_behind p schedule world taker h = record {
-    play = h.play;
-    there = h.there;
-    taken = h.taken;
-    had = subst (λ turns. HadSome p turns h.play) (append-nil schedule) (some_then p h.between h.play schedule [] h.turns (some_rounds h.between h.play h.rounds));
-  }
 
   -- the whole run
   pub played : (base : BaseTree) (schedule : List ℕ) (world : Running) (taker : T) (board : Log) (retries : List Retry) → HadAllWith took (a_start base) schedule world taker → (board.base ≡ world.base) × (board.order ≡ world.machine.order) × (retries ≡ joined world.retries) → IsPlayed took base schedule taker board retries

@@ -256,10 +256,6 @@ unless-ok true S rule cs e = cc
 unless-ok false S rule cs e = (refl, e)
 
 -- the content of a node that is there
-renewed_ok : (flag : Bool) (bytes old : List ℕ) (exec was : Bool) → IsContent bytes → IsContent old → NodeOk (renewed flag (File bytes exec) (File old was))
-renewed_ok true bytes old exec was new h = h
-renewed_ok false bytes old exec was new h = new
-
 pub renewed_node : (flag : Bool) (q : List (List ℕ)) (bytes old : List ℕ) (exec was : Bool) → IsContent bytes → IsContent old → IsNode q (renewed flag (File bytes exec) (File old was))
 renewed_node true q bytes old exec was new h = h
 renewed_node false q bytes old exec was new h = new

@@ -14,6 +14,5 @@ pub mod Meaning
 pub mod Calls
 pub mod Namings
 pub mod Counted
-pub mod Asking
 pub mod Crosses
 pub mod Scoped

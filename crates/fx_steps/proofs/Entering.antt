@@ -19,6 +19,11 @@ leads_at known own step p env s was now spot h = record { found = told_found (kn
 pub leads_step : (known : ReadList) (own : Known) (step other : Step) (p : List (List ℕ)) (env : Bindings) (s : SpecTree) (spot : Spot) → other ≡ step → LeadsToSpot known own step p env s spot → LeadsToSpot known own other p env s spot
 leads_step known own step other p env s spot e h = subst (λ t. LeadsToSpot known own t p env s spot) (sym e) h
 
+-- the choice among a set that is answered
+pub chosen_is : (a : Address) (f : List (List ℕ) → Option (List ℕ)) (o : Outcome) (set : List (List ℕ)) → set_answer o ≡ Ok set → chosen a f o ≡ element a (f set)
+chosen_is a f (Ok v) set h = let same : names_in v ≡ set = cc in ap (λ set. element a (f set)) same
+chosen_is a f (Err g) set h = absurd (cc)
+
 module _ (p : List (List ℕ)) (env : Bindings) (rule : Address → Ask (Answered Address)) (s : SpecTree) where
   abbrev At : ℕ → ℕ → Result Entry Halt → Type 0
   At was now r = EntersAt rule p env s was now r
@@ -29,17 +34,13 @@ module _ (p : List (List ℕ)) (env : Bindings) (rule : Address → Ask (Answere
 
   -- the chosen element of a comprehension's set
   module _ (d : SpecTree) (x : List ℕ) (e : ExprTree) (form : s ≡ SpecTree.comp d x e) (f : List (List ℕ) → Option (List ℕ)) (is : (a : Address) → rule a ≡ Tick (Answer (chosen a f (eval_of env e)))) (was now : ℕ) (one : now ≤ was + 1) where
-    chosen_is : (o : Outcome) (a : Address) (set : List (List ℕ)) → set_answer o ≡ Ok set → chosen a f o ≡ element a (f set)
-    chosen_is (Ok v) a set h = let same : names_in v ≡ set = cc in ap (λ set. element a (f set)) same
-    chosen_is (Err g) a set h = absurd (cc)
-
     cost : (a : Address) → now ≤ was + costs (rule a)
     cost a = subst (λ (r : Ask (Answered Address)). now ≤ was + costs r) (sym (is a)) (omega (arith, one))
 
     module _ (set : List (List ℕ)) (answer : set_answer (eval_of env e) ≡ Ok set) (member : (t : List ℕ) → f set ≡ Some t → has_text t set ≡ true) where
       said : (choice : Option (List ℕ)) → choice ≡ f set → (a : Address) (r : Result (Result Entry Refusal) Stop) → Says (answered (λ e. step_tree e.step ∷ a)) (Some (element a choice)) r → Says (answered (λ e. step_tree e.step ∷ a)) (told (rule a)) r
       said choice same a r h =
-          subst (λ (o : Option (Answered Address)). Says (answered (λ (e : Entry). step_tree e.step ∷ a)) o r) (ap (λ c. Some (element a c)) same ∙ ap Some (sym (chosen_is (eval_of env e) a set answer)) ∙ sym (ap told (is a))) h
+          subst (λ (o : Option (Answered Address)). Says (answered (λ (e : Entry). step_tree e.step ∷ a)) o r) (ap (λ c. Some (element a c)) same ∙ ap Some (sym (chosen_is a f (eval_of env e) set answer)) ∙ sym (ap told (is a))) h
 
       led : (choice : Option (List ℕ)) → choice ≡ f set → (r : Result Entry Halt) → Chooses p x set choice r → (known : ReadList) (own : Known) → IfOk r (λ e. LeadsToSpot known own (step_tree e.step) p env s e.spot)
       led choice same (Err h) chooses known own = tt

@@ -1,6 +1,7 @@
 -- Lists with the last first.
-use Rattle.fx_steps.proofs.Prelude.{◌≡◌, ℕ, zero, suc, ◌+◌, ◌-◌, ◌<◌, ◌≤◌, List, [], ◌∷◌, ◌++◌, length, take, drop, true, false, Option, Some, None, refl, sym, ap, ◌∙◌, append_assoc, arith, length-append, length-drop, slice_get, IsSome}
+use Rattle.fx_steps.proofs.Prelude.{◌≡◌, ℕ, ◌+◌, ◌-◌, ◌<◌, ◌≤◌, List, [], ◌∷◌, ◌++◌, length, take, drop, true, false, Option, Some, None, refl, sym, ap, ◌∙◌, append_assoc, arith, length-append, length-drop, slice_get, IsSome}
 use Rattle.fx_steps.proofs.Prelude.{MatchOption, Bindings, Frame, last_set, last_caller, option_to_list, take-append-drop, turned_onto, turned}
+use Rattle.std.proofs.lemmas.List.{drop_at}
 use Rattle.fx_base.proofs.Lists.{drop_next}
 
 module _ {A B : Type 0} (f : A → B) where
@@ -37,17 +38,12 @@ module _ {A B : Type 0} (f : A → B) where
 
 -- the first ones are the last of those turned
 module _ {A B : Type 0} (f : A → B) where
-  drop_front : (xs ys : List B) (n : ℕ) → n ≡ length xs → drop n (xs ++ ys) ≡ ys
-  drop_front [] ys n e = ap (λ n. drop n ys) e
-  drop_front (x ∷ xs) ys zero e = absurd (omega (arith, e))
-  drop_front (x ∷ xs) ys (suc n) e = drop_front xs ys n (omega (arith, e))
-
   pub turned_take : (xs : List A) (n : ℕ) → n ≤ length xs → turned f (take n xs) ≡ drop (length xs - n) (turned f xs)
   turned_take xs n few =
       let whole : turned f xs ≡ turned f (drop n xs) ++ turned f (take n xs) = ap (turned f) (sym (take-append-drop n xs)) ∙ turned_both f (take n xs) (drop n xs) in
       let left = length-drop n xs in
       let long = length-turned f (drop n xs) in
-      sym (ap (drop (length xs - n)) whole ∙ drop_front (turned f (drop n xs)) (turned f (take n xs)) (length xs - n) (omega (arith, left, long)))
+      sym (ap (drop (length xs - n)) whole ∙ drop_at (turned f (drop n xs)) (turned f (take n xs)) (length xs - n) (omega (arith, left, long)))
 
 -- two lists with ends of one length
 pub same_ends : {A : Type 0} (a b k l : List A) → a ++ k ≡ b ++ l → length k ≡ length l → (a ≡ b) × (k ≡ l)

@@ -5,7 +5,7 @@ use Rattle.std.specs.Option.{IfSome, option_map, unwrap_or}
 use Rattle.fx_store.specs.Rule.{Known, Ask, Found, follow}
 use Rattle.fx_expr.specs.Tree.{Tree}
 use Rattle.fx_expr.specs.Views.{tree_of}
-use Rattle.fx_spec.specs.Describe.{Bindings, value}
+use Rattle.fx_spec.specs.Describe.{Bindings}
 use Rattle.fx_spec.specs.Move.{Answered, element}
 use Rattle.fx_spec.specs.Place.{Step, Elem, Address, PlaceTree, placed, lead}
 use Rattle.fx_spec.specs.SpecTree.{SpecTree}

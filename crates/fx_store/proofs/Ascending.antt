@@ -18,9 +18,6 @@ use Rattle.fx_store.specs.Names.{is_in, is_above}
 less_is : (r : Ordering) → r ≡ Less → is_lt r ≡ true
 less_is r e = ap is_lt e
 
-not_equal : (r : Ordering) → is_eq r ≡ false → r ≡ Equal → ⊥
-not_equal r e f = false≢true (sym e ∙ ap is_eq f)
-
 module _ {K : Type 0} {R : K → K → Ordering} (o : IsTotalOrder R) where
   -- a key below the first of an ascending list is below all of it
   below_rest : (k : K) (l : K) (ks : List K) → R k l ≡ Less → AllByRecursion (λ y. R l y ≡ Less) ks → AllByRecursion (λ y. R k y ≡ Less) ks

@@ -9,7 +9,7 @@ use Rattle.std.specs.FinMap.{get, get-empty}
 use Rattle.std.proofs.lemmas.Bool.{false≢true, true≢false, cases_lt, or_right}
 use Rattle.std.proofs.lemmas.Map.Keys.{apart_from_distinct}
 use Rattle.std.proofs.lemmas.Option.{same_Some, none-some, slice_get_within, slice_get-map, get_or_from_slice_get}
-use Rattle.std.proofs.lemmas.List.{append-nil, append_assoc}
+use Rattle.std.proofs.lemmas.List.{append_assoc}
 use Rattle.std.proofs.lemmas.List.Elements.{All-more, All-weaker}
 use Rattle.fx_base.proofs.Names.{path_itself}
 use Rattle.fx_store.specs.declared.node.Node.{Node}
@@ -183,9 +183,6 @@ module _ (places new : List Path) (kept : KeepsPlaces places new) where
       let HasPlace : List Path → Change → Type 0 = λ ks c. IsSome c.node → IsTrue (has_path ks c.path) in
       All-more (HasPlace new) changes i c lt (All-weaker (HasPlace places) (HasPlace new) (λ c h s. has_path_kept c.path (h s)) (take i changes) before) (subst (HasPlace new) read here)
 
-pub KeepsPlaces-all : (ks : List Path) → KeepsPlaces ks ks
-KeepsPlaces-all ks = ([], sym (append-nil ks))
-
 pub KeepsPlaces-then : (a b d : List Path) → KeepsPlaces a b → KeepsPlaces b d → KeepsPlaces a d
 KeepsPlaces-then a b d x y = (x.0 ++ y.0, y.1 ∙ (ap (λ ks. ks ++ y.0) x.1 ∙ append_assoc a x.0 y.0))
 
@@ -198,7 +195,3 @@ pub place_of_entry : (es : Entries) (i : ℕ) (p : Path) (o : Option Node) → S
 place_of_entry es i p o entry value =
     ap (option_map (λ n. (p, n))) (get_of_lookup es p (Some o) (sym value))
     ∙ ap (option_and_then (node_with (nodes_of es))) (ap (option_map (λ (e : Path × Option Node). e.0)) entry ∙ sym (slice_get-map (λ (e : Path × Option Node). e.0) es i))
-
-pub place_past : (es : Entries) (i : ℕ) → None ≡ slice_get es i → None ≡ place_at (table_of es) i
-place_past es i entry =
-    ap (option_and_then (node_with (nodes_of es))) (ap (option_map (λ (e : Path × Option Node). e.0)) entry ∙ sym (slice_get-map (λ (e : Path × Option Node). e.0) es i))

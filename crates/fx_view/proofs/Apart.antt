@@ -1,5 +1,5 @@
 -- The first reads that an edit leaves as they were: those before the first at a changed path.
-use Rattle.std.proofs.Common.{◌≡◌, ℕ, suc, Bool, true, false, cond, List, [], ◌∷◌, ◌++◌, length, min, take, Option, Some, None, is_some, IsSome, refl, sym, ap, subst, ◌∙◌, arith}
+use Rattle.std.proofs.Common.{◌≡◌, ℕ, suc, Bool, true, false, cond, List, [], ◌∷◌, ◌++◌, min, take, Option, Some, None, is_some, IsSome, refl, sym, ap, subst, ◌∙◌, arith}
 use Rattle.std.specs.Prelude.{slice_get}
 use Rattle.std.specs.Ordering.{eq_by_cmp}
 use Rattle.std.proofs.lemmas.Bool.{false≢true}
@@ -52,10 +52,6 @@ among_append (q ∷ ps) qs p = at (eq_by_cmp path_cmp q p) (among_append ps qs p
     at : (b : Bool) → is_among (ps ++ qs) p ≡ cond (is_among ps p) true (is_among qs p) → cond b true (is_among (ps ++ qs) p) ≡ cond (cond b true (is_among ps p)) true (is_among qs p)
     at true rest = refl
     at false rest = rest
-
-pub count_no_paths : (reads : ReadList) → count_before [] reads ≡ length reads
-count_no_paths [] = refl
-count_no_paths (e ∷ es) = ap suc (count_no_paths es)
 
 pub count_append : (ps qs : List Path) (reads : ReadList) → count_before (ps ++ qs) reads ≡ min (count_before ps reads) (count_before qs reads)
 count_append ps qs [] = refl

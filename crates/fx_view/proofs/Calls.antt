@@ -1,7 +1,6 @@
 -- Calls that follow rules: an answer, one look, one call and then the next, an evaluation, and a call that stops.
 use Rattle.std.proofs.Common.{◌≡◌, ℕ, ◌+◌, List, Option, Some, Result, Ok, Err, refl, ap, sym, subst, arith}
 use Rattle.std.specs.Prelude.{IfOk, IfErr}
-use mathlib.Core.Path.{fun_ext}
 use Rattle.fx_store.specs.declared.node.Node.{Node}
 use Rattle.fx_store.specs.Rule.{Known, Ask, Answer, Tick, look, ◌>>=◌, seen, answer, ticks, changed}
 use Rattle.fx_store.specs.Whole.{Store}
@@ -10,11 +9,11 @@ use Rattle.fx_view.specs.declared.reader.Stop.{Stop}
 use Rattle.fx_view.specs.declared.reader.Stop.TheVariants as stop
 use Rattle.fx_view.specs.Meaning.{Meaning}
 use Rattle.fx_view.specs.Reads.{known_of, Agrees}
-use Rattle.fx_view.specs.Answers.{IsReadOf, NeedsIt}
+use Rattle.fx_view.specs.Answers.{IsReadOf}
 use Rattle.fx_view.specs.Follows.{walked, Went, GoesBy, Follows, Consults}
 use Rattle.fx_view.proofs.Rules.{found_answer}
 use Rattle.fx_view.proofs.Going.{Went-grows}
-use Rattle.fx_view.proofs.Rulings.{by_answer, by_refused, by_then, by_stop, by_own, by_tick, by_look, by_look_refused, by_look_stop, by_look_own}
+use Rattle.fx_view.proofs.Rulings.{by_answer, by_refused, by_then, by_stop, by_tick, by_look, by_look_own}
 
 abbrev Path : Type 0
 Path = List (List ℕ)
@@ -48,10 +47,6 @@ module _ {R : Type 0} (m : Meaning R) where
 
   pub follows_tick : {A X : Type 0} (view : X → A) (own : Known) (old : R) (n : ℕ) (new : R × ℕ) (rule : Ask A) (result : Result X Stop) → Follows m view own (old, n + 1) new rule result → Follows m view own (old, n) new (Tick rule) result
   follows_tick view own old n new rule result h = record { goes = by_tick m view own old new.0 rule result h.goes; most = λ S agrees. let most = h.most S agrees in omega arith }
-
-  -- an evaluation that is refused for want of memory
-  pub follows_tick_refused : {A X : Type 0} (view : X → A) (own : Known) (old : R) (n : ℕ) (rule : Ask A) → Follows {A = A} {X = X} m view own (old, n) (old, n + 1) (Tick rule) (Err stop.NoMemory)
-  follows_tick_refused view own old n rule = follows_tick view own old n (old, n + 1) rule (Err stop.NoMemory) (follows_refused view own (old, n + 1) rule)
 
   -- ---- one rule, and then the next
 
@@ -88,29 +83,12 @@ module _ {R : Type 0} (m : Meaning R) where
   pub follows_same : {A X : Type 0} (view : X → A) (own : Known) (old new : R × ℕ) (rule other : Ask A) (result : Result X Stop) → rule ≡ other → Follows m view own old new rule result → Follows m view own old new other result
   follows_same {A} {X} view own old new rule other result e h = subst (λ (r : Ask A). Follows m view own old new r result) e h
 
-  -- the same own changes, kept in another way
-  pub follows_own : {A X : Type 0} (view : X → A) (own other : Known) (old new : R × ℕ) (rule : Ask A) (result : Result X Stop) → ((p : Path) → own p ≡ other p) → Follows m view own old new rule result → Follows m view other old new rule result
-  follows_own view own other old new rule result same h = record {
-    goes = by_own m view own other old.0 new.0 rule result same h.goes;
-    most = λ S agrees.
-        let is = ap (λ (T : Store). ticks T rule) (fun_ext (λ p. ap (λ o. seen o (S p)) (same p))) in
-        omega (arith, h.most S agrees, is);
-  }
-
   -- ---- one look
 
   module _ (own : Known) (old new : R) (path : Path) (same : m.complete new ≡ m.complete old) (vouched : (start : R) → m.vouches start old (m.reads old) → m.vouches start new (m.reads new)) where
     -- a read, with the own changes on top
     pub consults_look : (under top : Option Node) → IsReadOf (m.reads old) (m.reads new) path under → top ≡ seen (own path) under → Consults m (λ n. n) own old new (look path) (Ok top)
     consults_look under top read e = consults_by (λ n. n) own old new (look path) (Ok top) (by_look m own old new path same vouched under top read e)
-
-    -- a read, and then memory is refused
-    pub consults_look_refused : (under : Option Node) → IsReadOf (m.reads old) (m.reads new) path under → Consults {A = Option Node} {X = Option Node} m (λ n. n) own old new (look path) (Err stop.NoMemory)
-    consults_look_refused under read = consults_by (λ n. n) own old new (look path) (Err stop.NoMemory) (by_look_refused m own old new path same vouched under read)
-
-    -- a read that stops
-    pub consults_look_stop : (why : Stop) → m.reads new ≡ m.reads old → NeedsIt (m.complete old) (m.reads old) path why → Consults {A = Option Node} {X = Option Node} m (λ n. n) own old new (look path) (Err why)
-    consults_look_stop why kept needs = consults_by (λ n. n) own old new (look path) (Err why) (by_look_stop m own old new path same vouched why kept needs)
 
     -- a read at a path with an own change, which is copied unless memory is refused
     pub consults_look_own : (under change : Option Node) (result : Result (Option Node) Stop) → IsReadOf (m.reads old) (m.reads new) path under → Some change ≡ own path → IfOk result (λ n. n ≡ change) → IfErr result (λ why. why ≡ stop.NoMemory) → Consults m (λ n. n) own old new (look path) result

@@ -26,11 +26,6 @@ module _ {R : Type 0} (m : Meaning R) where
   pub Went-none : (old : R) (paths : List Path) → Went m old old paths
   Went-none old paths = Went-kept old old paths refl refl (λ start v. v)
 
-  -- and goes on with what it has
-  pub Went-kept_on : (old mid new : R) (paths : List Path) → m.reads new ≡ m.reads mid → m.complete new ≡ m.complete mid → ((start : R) → m.vouches start mid (m.reads mid) → m.vouches start new (m.reads new)) → Went m old mid paths → Went m old new paths
-  Went-kept_on old mid new paths kept same vouched went =
-      record { more = went.more; kept = kept ∙ went.kept; only = went.only; order = went.order; same = same ∙ went.same; vouched = λ start v. vouched start (went.vouched start v) }
-
   -- over a front of the paths
   pub Went-front : (old new : R) (ps rest qs : List Path) → qs ≡ ps ++ rest → Went m old new ps → Went m old new qs
   Went-front old new ps rest qs e went = subst (Went m old new) (sym e) (record {
@@ -62,8 +57,3 @@ module _ {R : Type 0} (m : Meaning R) where
   -- what was known stays known
   pub Went-grows : (old new : R) (paths : List Path) → Went m old new paths → Grows (known_of (m.reads old)) (known_of (m.reads new))
   Went-grows old new paths went = subst (λ rs. Grows (known_of (m.reads old)) (known_of rs)) (sym went.kept) (Grows-reads (m.reads old) went.more)
-
-  -- a reader that had read nothing has read these paths alone
-  pub Went-from_none : (old new : R) (paths : List Path) → m.reads old ≡ [] → Went m old new paths → All (Contains paths) (keys_of (m.reads new))
-  Went-from_none old new paths none went =
-      subst (λ rs. All (Contains paths) (keys_of rs)) (sym (went.kept ∙ ap (λ rs. rs ++ went.more) none)) went.only

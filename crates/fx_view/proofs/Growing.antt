@@ -13,12 +13,6 @@ use Rattle.fx_view.specs.Reads.{read_at, known_of, IsRead, Agrees}
 pub record Grows (known more : Known) : Type 0 where
   pub keeps : (p : List (List ℕ)) (n : Option Node) → known p ≡ Some n → more p ≡ Some n
 
-pub Grows-all : (known : Known) → Grows known known
-Grows-all known = record { keeps = λ p n e. e }
-
-pub Grows-then : (a b c : Known) → Grows a b → Grows b c → Grows a c
-Grows-then a b c x y = record { keeps = λ p n e. y.keeps p n (x.keeps p n e) }
-
 pub read_at-more : (reads more : ReadList) (p : List (List ℕ)) (x : Option Node × ℕ) → read_at reads p ≡ Some x → read_at (reads ++ more) p ≡ Some x
 read_at-more [] more p x e = cc
 read_at-more (e ∷ es) more p x found = first (eq_by_cmp path_cmp p e.0) found (read_at-more es more p x)

@@ -15,5 +15,4 @@ pub mod Nets
 pub mod Sames
 pub mod Owning
 pub mod Apart
-pub mod NetLaws
 pub mod Wholes

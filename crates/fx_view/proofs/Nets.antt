@@ -1,6 +1,5 @@
 -- Own changes against what was read: what is left of them, in order.
-use Rattle.std.proofs.Common.{◌≡◌, ◌≢◌, ℕ, suc, ◌+◌, Bool, true, false, not, cond, List, [], ◌∷◌, ◌++◌, get_or, Option, Some, None, refl, sym, ap, subst, ◌∙◌, inl, inr, arith}
-use Rattle.std.specs.Prelude.{◌↔◌}
+use Rattle.std.proofs.Common.{◌≡◌, ◌≢◌, ℕ, suc, ◌+◌, Bool, true, false, cond, List, [], ◌∷◌, ◌++◌, get_or, Option, Some, refl, sym, ap, subst, ◌∙◌, inl, inr, arith}
 use Rattle.std.specs.declared.cmp.Ordering.{Ordering}
 use Rattle.std.specs.declared.cmp.Ordering.TheVariants.{Less, Equal, Greater}
 use Rattle.std.specs.Cmp.{IsTotalOrder}
@@ -8,7 +7,7 @@ use Rattle.std.specs.List.{AllByRecursion, IsDistinct}
 use Rattle.std.specs.List.Sorted.{IsSorted, IsStrictlySortedBy}
 use Rattle.std.specs.Map.{keys_of}
 use Rattle.std.specs.Ordering.{eq_by_cmp, is_eq, is_lt, ordering_reverse}
-use Rattle.std.proofs.lemmas.Bool.{false≢true, true≢false}
+use Rattle.std.proofs.lemmas.Bool.{true≢false}
 use Rattle.fx_store.specs.declared.node.Node.{Node}
 use Rattle.fx_store.specs.declared.changes.Change.{Change}
 use Rattle.fx_store.specs.Changes.{change_at, changed_paths, IsChanges}
@@ -17,33 +16,12 @@ use Rattle.fx_store.specs.Orders.{path_eq_same}
 use Rattle.fx_store.proofs.Tables.{path_symm}
 use Rattle.fx_view.specs.OwnList.{OwnList}
 use Rattle.fx_view.specs.ReadList.{ReadList}
-use Rattle.fx_view.specs.Reads.{read_at, known_of}
+use Rattle.fx_view.specs.Reads.{known_of}
 use Rattle.fx_view.specs.Own.{own_at, IsNet}
 use Rattle.fx_view.specs.Net.{Differs, change_of, IsNetOf, none, sets, drops, Adds}
-use Rattle.fx_view.proofs.Growing.{known_by_read, unknown_by_read}
 
 abbrev Path : Type 0
 Path = List (List ℕ)
-
--- ---- one entry against what was read
-
--- where something was read, an entry differs exactly where its node is not the one read
-pub differs_read : (reads : ReadList) (path : Path) (now was : Option Node) (position : ℕ) (same : Bool) → Some (was, position) ≡ read_at reads path → (same ≡ true) ↔ (now ≡ was) → (not same ≡ true) ↔ Differs reads (path, now)
-differs_read reads path now was position same read decides =
-    let known : known_of reads path ≡ Some was = known_by_read reads path was position (sym read) in
-    (λ t. (was, known, λ e. false≢true (ap not (sym (decides.1 e)) ∙ t)), λ d. apart same decides.0 (λ e. d.2 (e ∙ same_was d.0 d.1 known)))
-  where
-    same_was : (other : Option Node) → known_of reads path ≡ Some other → known_of reads path ≡ Some was → was ≡ other
-    same_was other a b = cc
-
-    apart : (b : Bool) → (b ≡ true → now ≡ was) → (now ≡ was → ⊥) → not b ≡ true
-    apart true f g = absurd (g (f refl))
-    apart false f g = refl
-
-pub differs_unread : (reads : ReadList) (path : Path) (now : Option Node) → None ≡ read_at reads path → (false ≡ true) ↔ Differs reads (path, now)
-differs_unread reads path now read =
-    let unknown : known_of reads path ≡ None = unknown_by_read reads path (sym read) in
-    (λ t. absurd (false≢true t), λ d. let some : known_of reads path ≡ Some d.0 = d.1 in cc)
 
 -- ---- one entry after another
 

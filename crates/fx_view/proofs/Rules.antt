@@ -130,29 +130,6 @@ walked_known {A} known own (Look p next) = step (known p) refl (λ n. walked_kno
     step None at rest = tt
     step (Some n) at rest = (ap is_some at, rest n)
 
--- ---- other own changes that are the same at each path
-
-module _ {A : Type 0} (known own other : Known) (same : (p : Path) → own p ≡ other p) where
-  pub follow_own : (rule : Ask A) → follow known own rule ≡ follow known other rule
-  follow_own (Answer a) = refl
-  follow_own (Tick rule) = follow_own rule
-  follow_own (Look p next) = step (known p) (λ n. follow_own (next (seen (own p) n)))
-    where
-      step : (k : Option (Option Node)) → ((n : Option Node) → follow known own (next (seen (own p) n)) ≡ follow known other (next (seen (own p) n)))
-          → if_known p k (λ n. follow known own (next (seen (own p) n))) ≡ if_known p k (λ n. follow known other (next (seen (other p) n)))
-      step None rest = refl
-      step (Some n) rest = rest n ∙ ap (λ o. follow known other (next (seen o n))) (same p)
-
-  pub walked_own : (rule : Ask A) → walked known own rule ≡ walked known other rule
-  walked_own (Answer a) = refl
-  walked_own (Tick rule) = walked_own rule
-  walked_own (Look p next) = step (known p) (λ n. walked_own (next (seen (own p) n)))
-    where
-      step : (k : Option (Option Node)) → ((n : Option Node) → walked known own (next (seen (own p) n)) ≡ walked known other (next (seen (own p) n)))
-          → walked_on p k (λ n. walked known own (next (seen (own p) n))) ≡ walked_on p k (λ n. walked known other (next (seen (other p) n)))
-      step None rest = refl
-      step (Some n) rest = ap (λ ps. p ∷ ps) (rest n ∙ ap (λ o. walked known other (next (seen o n))) (same p))
-
 -- ---- at a filestore that agrees with what is known
 
 module _ {A : Type 0} (known own : Known) (S : Store) (agrees : AgreesWith known S) where
@@ -190,20 +167,6 @@ module _ {A : Type 0} (known own : Known) (S : Store) (agrees : AgreesWith known
   pub needs_first : (rule : Ask A) (q : Path) → follow known own rule ≡ Needs q → first_unknown known (asked (changed own S) rule) ≡ Some q
   needs_first rule q e = subst (FollowedAt known own rule S) e (followed known own rule S agrees)
 
-  -- in each case it has consulted a front of what it consults there
-  pub walked_asked : (rule : Ask A) → (rest : List Path) × (asked (changed own S) rule ≡ walked known own rule ++ rest)
-  walked_asked (Answer b) = ([], refl)
-  walked_asked (Tick rule) = walked_asked rule
-  walked_asked (Look p next) = step (known p) refl (λ n. walked_asked (next (seen (own p) n)))
-    where
-      step : (k : Option (Option Node)) → known p ≡ k
-          → ((n : Option Node) → (rest : List Path) × (asked (changed own S) (next (seen (own p) n)) ≡ walked known own (next (seen (own p) n)) ++ rest))
-          → (rest : List Path) × (p ∷ asked (changed own S) (next (changed own S p)) ≡ walked_on p k (λ n. walked known own (next (seen (own p) n))) ++ rest)
-      step None at rest = (p ∷ asked (changed own S) (next (changed own S p)), refl)
-      step (Some n) at rest =
-          let r = rest n in
-          (r.0, ap (λ ps. p ∷ ps) (ap (λ m. asked (changed own S) (next (seen (own p) m))) (agrees p n at) ∙ r.1))
-
 -- a path that is needed is not known
 pub needs_unknown : {A : Type 0} (known own : Known) (rule : Ask A) (q : Path) → follow known own rule ≡ Needs q → known q ≡ None
 needs_unknown known own (Answer b) q e = cc
@@ -225,13 +188,3 @@ looked {A} known own (p ∷ ps) x y e = step (known p) refl e (λ h. looked know
     step : (k : Option (Option Node)) → known p ≡ k → if_known p k (λ n. follow known own (look_all ps (Answer x))) ≡ Found y → (follow known own (look_all ps (Answer x)) ≡ Found y → AllKnown known ps × (x ≡ y)) → (IsSome (known p) × AllKnown known ps) × (x ≡ y)
     step None at e rest = cc
     step (Some n) at e rest = let h = rest e in ((subst (λ o. IsSome o) (sym at) refl, h.0), h.1)
-
--- where the whole finds an answer, the first rule finds one, and the next finds the whole's from it
-pub found_then : {A B : Type 0} (known own : Known) (rule : Ask A) (f : A → Ask B) (y : B) → follow known own (rule >>= f) ≡ Found y → (x : A) × (follow known own (f x) ≡ Found y)
-found_then known own (Answer x) f y e = (x, e)
-found_then known own (Tick rule) f y e = found_then known own rule f y e
-found_then {A} {B} known own (Look p rule) f y e = step (known p) e (λ n h. found_then known own (rule (seen (own p) n)) f y h)
-  where
-    step : (k : Option (Option Node)) → if_known p k (λ n. follow known own (rule (seen (own p) n) >>= f)) ≡ Found y → ((n : Option Node) → follow known own (rule (seen (own p) n) >>= f) ≡ Found y → (x : A) × (follow known own (f x) ≡ Found y)) → (x : A) × (follow known own (f x) ≡ Found y)
-    step None e rest = cc
-    step (Some n) e rest = rest n e

@@ -1,17 +1,17 @@
 -- Calls that go by rules: an answer, one look, one call and then the next, and a call that stops.
-use Rattle.std.proofs.Common.{◌≡◌, ℕ, List, [], ◌∷◌, ◌++◌, Option, Some, None, Result, Ok, Err, refl, ap, ◌∙◌, sym, subst, inl, inr}
+use Rattle.std.proofs.Common.{◌≡◌, ℕ, List, [], ◌∷◌, ◌++◌, Option, Some, Result, Ok, Err, refl, ap, ◌∙◌, sym, subst, inl, inr}
 use Rattle.std.specs.Prelude.{IfOk, IfErr}
 use Rattle.std.proofs.lemmas.List.Elements.{All-contains_itself}
 use Rattle.fx_store.specs.declared.node.Node.{Node}
-use Rattle.fx_store.specs.Rule.{Known, Ask, Answer, Tick, look, ◌>>=◌, Found, Needs, seen, if_known, follow}
+use Rattle.fx_store.specs.Rule.{Known, Ask, Answer, Tick, look, ◌>>=◌, Found, seen, if_known, follow}
 use Rattle.fx_view.specs.declared.reader.Stop.{Stop}
 use Rattle.fx_view.specs.declared.reader.Stop.TheVariants as stop
 use Rattle.fx_view.specs.Meaning.{Meaning}
 use Rattle.fx_view.specs.Reads.{known_of, read_at}
-use Rattle.fx_view.specs.Answers.{IsReadOf, NeedsIt}
+use Rattle.fx_view.specs.Answers.{IsReadOf}
 use Rattle.fx_view.specs.Follows.{walked, walked_on, Went, GoesBy}
-use Rattle.fx_view.proofs.Growing.{known_by_read, unknown_by_read, read_at-last}
-use Rattle.fx_view.proofs.Rules.{follow-bind, follow-bind_needs, walked-bind, walked-bind_needs, walked-bind_front, found_more, walked_more, walked_known, follow_own, walked_own}
+use Rattle.fx_view.proofs.Growing.{known_by_read, read_at-last}
+use Rattle.fx_view.proofs.Rules.{follow-bind, follow-bind_needs, walked-bind, walked-bind_needs, walked-bind_front, found_more, walked_more, walked_known}
 use Rattle.fx_view.proofs.Ordering.{InOrder-one}
 use Rattle.fx_view.proofs.Going.{Went-kept, Went-none, Went-front, Went-then, Went-grows}
 
@@ -84,14 +84,6 @@ module _ {R : Type 0} (m : Meaning R) where
   pub by_same : {A X : Type 0} (view : X → A) (own : Known) (old new : R) (rule other : Ask A) (result : Result X Stop) → rule ≡ other → GoesBy m view own old new rule result → GoesBy m view own old new other result
   by_same {A} {X} view own old new rule other result e h = subst (λ (r : Ask A). GoesBy m view own old new r result) e h
 
-  -- the same own changes, kept in another way
-  pub by_own : {A X : Type 0} (view : X → A) (own other : Known) (old new : R) (rule : Ask A) (result : Result X Stop) → ((p : Path) → own p ≡ other p) → GoesBy m view own old new rule result → GoesBy m view other old new rule result
-  by_own view own other old new rule (Ok x) same h =
-      (sym (follow_own (known_of (m.reads new)) own other same rule) ∙ h.0, subst (Went m old new) (walked_own (known_of (m.reads new)) own other same rule) h.1)
-  by_own view own other old new rule (Err (stop.Needs q)) same h =
-      (sym (follow_own (known_of (m.reads new)) own other same rule) ∙ h.0, h.1, subst (Went m old new) (walked_own (known_of (m.reads new)) own other same rule) h.2)
-  by_own view own other old new rule (Err stop.NoMemory) same h = subst (Went m old new) (walked_own (known_of (m.reads new)) own other same rule) h
-
   -- ---- one look
 
   module _ (own : Known) (old new : R) (path : Path) (same : m.complete new ≡ m.complete old) (vouched : (start : R) → m.vouches start old (m.reads old) → m.vouches start new (m.reads new)) where
@@ -118,16 +110,6 @@ module _ {R : Type 0} (m : Meaning R) where
     -- a read, and then memory is refused
     pub by_look_refused : (under : Option Node) → IsReadOf (m.reads old) (m.reads new) path under → GoesBy {A = Option Node} {X = Option Node} m (λ n. n) own old new (look path) (Err stop.NoMemory)
     by_look_refused under read = went_look under read
-
-    -- a read that stops
-    pub by_look_stop : (why : Stop) → m.reads new ≡ m.reads old → NeedsIt (m.complete old) (m.reads old) path why → GoesBy {A = Option Node} {X = Option Node} m (λ n. n) own old new (look path) (Err why)
-    by_look_stop (stop.Needs q) kept needs =
-        let unknown : known_of (m.reads new) path ≡ None = unknown_by_read (m.reads new) path (ap (λ rs. read_at rs path) kept ∙ needs.2) in (
-          ap (λ k. if_known path k (λ n. follow (known_of (m.reads new)) own (Answer (seen (own path) n)))) unknown ∙ ap (λ p. Needs p) (sym needs.0),
-          needs.1,
-          Went-kept m old new (walked (known_of (m.reads new)) own (look path)) kept same vouched,
-        )
-    by_look_stop stop.NoMemory kept needs = Went-kept m old new (walked (known_of (m.reads new)) own (look path)) kept same vouched
 
     -- a read at a path with an own change, which is copied unless memory is refused
     pub by_look_own : (under change : Option Node) (result : Result (Option Node) Stop) → IsReadOf (m.reads old) (m.reads new) path under → Some change ≡ own path → IfOk result (λ n. n ≡ change) → IfErr result (λ why. why ≡ stop.NoMemory)

@@ -25,9 +25,6 @@ Path = List (List ℕ)
 abbrev Read : Type 0
 Read = Option Node × ℕ
 
-pub of_none : (S : Store) → AreOf S []
-of_none S path found position e = absurd (none-some (found, position) e)
-
 -- one more read of a node of the filestore
 pub of_more : (reads : ReadList) (path : Path) (S : Store) (n : Option Node) → S path ≡ n → AreOf S reads → AreOf S (reads ++ (path, (n, 0)) ∷ [])
 of_more reads path S n there of q m position e = by (read_more_cases reads path (n, 0) q (m, position) e)

@@ -1,5 +1,5 @@
 //! Values by path: a short list while there are few, and a map for what comes then.
-ghost use Rattle.std.specs.Prelude.{◌≡◌, ◌<◌, ◌↔◌, ◌++◌, ◌∷◌, [], None, IsTrue, length, take, slice_get, slice_set, IfOk, IfSome, MatchOption, OnOk, OnErr, option_copied, option_map, List, ℕ};
+ghost use Rattle.std.specs.Prelude.{◌≡◌, ◌<◌, ◌++◌, ◌∷◌, [], None, length, take, slice_get, slice_set, IfOk, IfSome, MatchOption, OnOk, OnErr, option_copied, option_map, List, ℕ};
 ghost use Rattle.std.specs.List.{IsDistinct, position_or_len};
 ghost use Rattle.std.specs.List.Sorted.{IsPermutation, IsSorted};
 ghost use Rattle.std.specs.Map.{lookup, keys_of};

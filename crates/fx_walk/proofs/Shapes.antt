@@ -7,7 +7,7 @@ use Rattle.fx_store.specs.Whole.{Store}
 use Rattle.fx_expr.specs.Bindings.{bind}
 use Rattle.fx_expr.specs.ExprTree.{ExprTree}
 use Rattle.fx_expr.specs.ShapeTree.{ShapeTree}
-use Rattle.fx_expr.specs.Shapes.{ValueHas, BindingsHave, IsWellShaped}
+use Rattle.fx_expr.specs.Shapes.{ValueHas, BindingsHave}
 use Rattle.fx_expr.specs.Tree.{Tree}
 use Rattle.fx_expr.specs.Views.{tree_of}
 use Rattle.fx_expr.specs.declared.value.Value.{Value}
@@ -32,17 +32,11 @@ of_scope : (scope : Scope) (env : Bindings) (spec : SpecTree) → IsDescription 
 of_scope scope env spec d b = record { scope = scope; described = record { shapes = d; bindings = b } }
 
 module _ (env : Bindings) where
-  pub focus_text : (e : ExprTree) (s : SpecTree) → HasScope env (SpecTree.focus e s) → IsWellShaped env e
-  focus_text e s h = record { shapes = h.scope; shape = ShapeTree.str; bindings = h.described.bindings; expression = h.described.shapes.0 }
-
   pub focus_part : (e : ExprTree) (s : SpecTree) → HasScope env (SpecTree.focus e s) → HasScope env s
   focus_part e s h = of_scope h.scope env s h.described.shapes.1 h.described.bindings
 
   pub pair_first : (x : List ℕ) (a b : SpecTree) → HasScope env (SpecTree.pair x a b) → HasScope env a
   pair_first x a b h = of_scope h.scope env a h.described.shapes.0 h.described.bindings
-
-  pub comp_set : (s : SpecTree) (x : List ℕ) (e : ExprTree) → HasScope env (SpecTree.comp s x e) → IsWellShaped env e
-  comp_set s x e h = record { shapes = h.scope; shape = ShapeTree.names; bindings = h.described.bindings; expression = h.described.shapes.0 }
 
   pub comp_part : (s : SpecTree) (x : List ℕ) (e : ExprTree) → HasScope env (SpecTree.comp s x e) → HasTextScope env x s
   comp_part s x e h t =
@@ -51,15 +45,9 @@ module _ (env : Bindings) where
   pub opt_part : (s : SpecTree) → HasScope env (SpecTree.opt s) → HasScope env s
   opt_part s h = of_scope h.scope env s h.described.shapes h.described.bindings
 
-  pub pred_test : (e : ExprTree) → HasScope env (SpecTree.pred e) → IsWellShaped env e
-  pred_test e h = record { shapes = h.scope; shape = ShapeTree.bool; bindings = h.described.bindings; expression = h.described.shapes }
-
   module _ (args : List ExprTree) (params : List (List ℕ × ShapeTree)) where
     pub call_arguments : (s : SpecTree) → HasScope env (SpecTree.call args params s) → HaveShapes env params args
     call_arguments s h = record { scope = h.scope; bindings = h.described.bindings; arguments = h.described.shapes.0 }
-
-    pub last_arguments : HasScope env (SpecTree.last args params) → HaveShapes env params args
-    last_arguments h = record { scope = h.scope; bindings = h.described.bindings; arguments = h.described.shapes }
 
     -- in the body the parameters alone are bound
     pub call_body : (s : SpecTree) (names : Bindings) → HasScope env (SpecTree.call args params s) → inner_names env params args ≡ Ok names → HasScope names s

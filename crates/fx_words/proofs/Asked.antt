@@ -1,11 +1,11 @@
 -- What the words ask for, by the form that they have.
-use Rattle.std.proofs.Common.{◌≡◌, ℕ, ◌+◌, Bool, true, false, cond, ◌&&◌, List, [], ◌∷◌, length, Option, Some, None, refl, sym, ap, ◌∙◌, arith}
+use Rattle.std.proofs.Common.{◌≡◌, ℕ, ◌+◌, Bool, true, false, cond, List, [], ◌∷◌, length, Option, Some, None, refl, sym, ap, ◌∙◌, arith}
 use Rattle.std.specs.Option.{option_map, option_map_or, option_and_then}
 use Rattle.std.proofs.lemmas.Bool.Decides.{nat_tests}
 use Rattle.fx_words.specs.declared.form.CommandName.{CommandName}
 use Rattle.fx_words.specs.declared.form.CommandName.TheVariants as command
-use Rattle.fx_words.specs.Forms.{command_job, command_named, has_form, takes, word_of}
-use Rattle.fx_words.specs.Job.{Job, Mode, Run, Show, Gen, Large, Audit, Journal, Recover, Views, Scheduled, Watched, are_plain, audit_job, gen_job, is_plain, is_within, job_of, journal_job, recover_job, run_job, scheduled_job, show_job, views_job}
+use Rattle.fx_words.specs.Forms.{command_job, command_named, has_form, takes}
+use Rattle.fx_words.specs.Job.{Job, Mode, Run, Show, Gen, Large, Audit, Journal, Recover, Views, Scheduled, Watched, are_plain, audit_job, gen_job, is_within, job_of, journal_job, recover_job, run_job, scheduled_job, show_job, views_job}
 use Rattle.fx_words.proofs.Names.{job_named}
 
 -- ---- words without a form ask for nothing
@@ -93,17 +93,3 @@ either_none false = refl
 pub no_form : (words : List (List ℕ)) → has_form words ≡ false → job_of words ≡ None
 no_form [] e = refl
 no_form (w ∷ args) e = ap (λ j. cond (are_plain args) j None) (job_named w args ∙ by_none (command_named w) args e) ∙ either_none (are_plain args)
-
--- ---- nor do words of which one is empty or begins with `-`
-
-plain_name : (name : CommandName) → is_plain (word_of name) ≡ true
-plain_name command.Run = refl
-plain_name command.Trace = refl
-plain_name command.Show = refl
-plain_name command.Gen = refl
-plain_name command.Large = refl
-plain_name command.Audit = refl
-plain_name command.Watch = refl
-plain_name command.Journal = refl
-plain_name command.Recover = refl
-plain_name command.Views = refl

@@ -1,6 +1,6 @@
 -- Moves from a step to one beside it.
 use Rattle.fx_zip.proofs.Prelude.{ReadList, ◌≡◌, ℕ, ◌-◌, true, cond, List, [], ◌∷◌, length, drop, take, Option, Some, None, is_some, option_map, Result, Ok, Err, refl, sym, ap, ◌∙◌, subst, arith, IsErrAnd, IfOk, MatchOption, Known, Ask}
-use Rattle.fx_zip.proofs.Prelude.{Answer, Found, follow, ticks, changed, ◌>>=◌, Store, bind, Outcome, eval_of, names_in, ExprTree, has_text, Tree, Refusal, Bindings, value, Answered, unrefused, needed, at_place, another, chosen, element}
+use Rattle.fx_zip.proofs.Prelude.{Answer, Found, follow, ticks, changed, ◌>>=◌, Store, bind, Outcome, eval_of, ExprTree, has_text, Tree, Refusal, Bindings, value, Answered, unrefused, needed, at_place, another, element}
 use Rattle.fx_zip.proofs.Prelude.{Step, First, Second, Inside, Down, Body, Elem, Address, PlaceTree, placed, lead, place, SpecTree, Stop, Meaning, known_of, err_of, follow-bind, Halt, answered, split, Entry, Frame, Spot, OnRefused}
 use Rattle.fx_zip.proofs.Prelude.{SaysFound, Turns, Turned, Besides, beside, next_at, prev_at, next_evals, around, around_last, HasSet, IsHeldSet, AreFound, Stands, IsNoElement, last_step, last_set, last_caller, left, StandsIn, child, part}
 use Rattle.fx_zip.proofs.Prelude.{comp_name, bound_value, LeadsToSpot, LeadsFrom, Chooses, BindsValue, entered, step_tree, Says, set_answer, ZipTree, path_of, here, Implements, Answers, then_answers, then_refused, stops, same_rule, refused}
@@ -9,7 +9,7 @@ use Rattle.fx_view.specs.declared.reader.Stop.TheVariants as stop
 use Rattle.fx_session.specs.declared.halt.Halt.TheVariants as halt
 use Rattle.fx_steps.specs.declared.frame.Bound.TheVariants as bounds
 use Rattle.fx_steps.proofs.Consulting.{by_all}
-use Rattle.fx_steps.proofs.Entering.{leads_at, leads_step}
+use Rattle.fx_steps.proofs.Entering.{chosen_is, leads_at, leads_step}
 use Rattle.fx_steps.proofs.Leads.{first_leads, element_leads, grown_is, front_last}
 use Rattle.fx_zip.proofs.Standing.{found_place, stands_settled, stands_left, stands_entered, left_settled}
 use Rattle.fx_zip.proofs.Sessions.{stands_on, found_on}
@@ -54,10 +54,6 @@ module _ (known own : Known) (p : List (List ℕ)) (env : Bindings) (t : List �
   no_element (SpecTree.pred a) found h = absurd (cc)
   no_element (SpecTree.call args params s) found h = absurd (cc)
   no_element (SpecTree.last args params) found h = absurd (cc)
-
-chosen_is : (a : Address) (f : List (List ℕ) → Option (List ℕ)) (o : Outcome) (set : List (List ℕ)) → set_answer o ≡ Ok set → chosen a f o ≡ element a (f set)
-chosen_is a f (Ok v) set h = let same : names_in v ≡ set = cc in ap (λ set. element a (f set)) same
-chosen_is a f (Err g) set h = absurd (cc)
 
 -- the place around, and then the rule
 at_found : {B : Type 0} (known own : Known) (root : SpecTree) (a : Address) (rest : PlaceTree → Ask (Answered B)) (at : PlaceTree) → follow known own (place root a) ≡ Found (Some at) → follow known own (at_place root a rest) ≡ follow known own (rest at)

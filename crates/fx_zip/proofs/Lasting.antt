@@ -3,6 +3,7 @@ use Rattle.fx_zip.proofs.Prelude.{◌≡◌, ℕ, zero, suc, ◌+◌, ◌-◌, �
 use Rattle.fx_zip.proofs.Prelude.{nat_le, Node, Known, Ask, Answer, Look, Tick, follow, if_known, seen, Bindings, Address, lead, SpecTree, ReadList, SameOver, known_of, Frame, around, around_last, around_frame, shorter}
 use Rattle.fx_zip.proofs.Prelude.{AreFound, IsFresh, are_told, part, ZipTree, path_of}
 use Rattle.std.proofs.lemmas.Bool.Decides.{nat_tests}
+use Rattle.std.proofs.lemmas.List.{drop_at}
 use Rattle.fx_base.proofs.Booleans.{first_true, second_true}
 use Rattle.fx_base.proofs.Results.{still_some}
 use Rattle.fx_view.proofs.Growing.{Grows, Grows-reads}
@@ -64,11 +65,6 @@ fresh_lasts n reads own now z same told h = record {
 
 -- ---- one frame less, whatever its step
 
-drop_front : {A : Type 0} (xs ys : List A) (n : ℕ) → n ≡ length xs → drop n (xs ++ ys) ≡ ys
-drop_front [] ys n e = ap (λ n. drop n ys) e
-drop_front (x ∷ xs) ys zero e = absurd (omega (arith, e))
-drop_front (x ∷ xs) ys (suc n) e = drop_front xs ys n (omega (arith, e))
-
 drop_whole : {A : Type 0} (xs : List A) (n : ℕ) → n ≡ length xs → drop n xs ≡ []
 drop_whole [] zero e = refl
 drop_whole [] (suc n) e = refl
@@ -93,7 +89,7 @@ module _ (reads : ReadList) (own : Known) (z : ZipTree) where
       let both : length (ahead ++ step ∷ kept) ≡ length ahead + length (step ∷ kept) = length-append ahead (step ∷ kept) in
       let all = ap length whole in
       let front : drop (length z.address - length (f ∷ fs)) z.address ≡ step ∷ kept =
-      ap (drop (length z.address - length (f ∷ fs))) whole ∙ drop_front ahead (step ∷ kept) (length z.address - length (f ∷ fs)) (omega (arith, long, both, all)) in
+      ap (drop (length z.address - length (f ∷ fs))) whole ∙ drop_at ahead (step ∷ kept) (length z.address - length (f ∷ fs)) (omega (arith, long, both, all)) in
       record {
         ahead = ahead ++ step ∷ [];
         kept = kept;

@@ -8,7 +8,7 @@ pub use Rattle.std.specs.Option.{IfSome, option_copied, unwrap_or}
 pub use Rattle.std.specs.Prelude.{IfOk, IsErrAnd, MatchOption, nat_eq, nat_le, slice_get}
 pub use Rattle.fx_base.proofs.Errors.{err_of}
 pub use Rattle.fx_expr.specs.Bindings.{bind}
-pub use Rattle.fx_expr.specs.Eval.{Outcome, eval_of, names_in}
+pub use Rattle.fx_expr.specs.Eval.{Outcome, eval_of}
 pub use Rattle.fx_expr.specs.ExprTree.{ExprTree}
 pub use Rattle.fx_expr.specs.Sets.{greatest_below, has_text, least_above}
 pub use Rattle.fx_expr.specs.ShapeTree.{ShapeTree}
@@ -25,7 +25,7 @@ pub use Rattle.fx_session.specs.declared.halt.Halt.{Halt}
 pub use Rattle.fx_session.specs.declared.session.Session.{Session}
 pub use Rattle.fx_spec.specs.Describe.{Bindings, content, exists, flag_value, with_some}
 unfoldable pub use Rattle.fx_spec.specs.Describe.{value}
-pub use Rattle.fx_spec.specs.Move.{Answered, another, asks_flag, at_place, chosen, element, evaluated, fetch_at, fetch_shape, fetched, flag_at, go_down, go_into, go_next, go_out, go_prev, go_to, go_up, has_fetch_shape, needed, of_shape, same_shape}
+pub use Rattle.fx_spec.specs.Move.{Answered, another, asks_flag, at_place, element, evaluated, fetch_at, fetch_shape, fetched, flag_at, go_down, go_into, go_next, go_out, go_prev, go_to, go_up, has_fetch_shape, needed, of_shape, same_shape}
 pub use Rattle.fx_spec.specs.Move.{unrefused, value_shape, whole_at}
 pub use Rattle.fx_spec.specs.Parts.{part_of}
 pub use Rattle.fx_spec.specs.Place.{Address, Body, Down, Elem, First, Inside, PlaceTree, Second, Step, lead, placed}

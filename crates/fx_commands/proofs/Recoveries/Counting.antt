@@ -11,7 +11,6 @@ use Rattle.fx_spec.proofs.Orders.{legal-next, numbers_own, numbers_other}
 use Rattle.fx_machine.specs.declared.entry.Pair.{Pair}
 use Rattle.fx_durable.specs.Journal.{turn_of, turns_of}
 use Rattle.fx_machine.specs.Machine.{next_number}
-use Rattle.fx_machine.proofs.Reached.{shell_within}
 use Rattle.fx_audit.specs.Legal.{IsNextIn, IsFirstIllegal}
 use Rattle.fx_audit.proofs.Legal.{legal_turn}
 use Rattle.fx_commands.specs.Recoveries.Orders.{AreCounts}
@@ -48,9 +47,6 @@ module _ (base : BaseTree) (o : List Turn) (shell : ℕ) (counts : List ℕ) (ar
           get_or-set_other counts shell k (next + 1) 0 (λ same. eqb-false shell k e (sym same)) ∙ are.each k ∙ sym (ap length (numbers_other o k shell txn e))
 
   -- a transaction that is not its shell's next one, or is not in the script
-  pub not_a_shell : (txn : ℕ) → length counts ≤ shell → IsNextIn base o (shell, txn) → ⊥
-  not_a_shell txn le is = let within = shell_within base shell txn is.planned in omega (arith, within, le, are.shells)
-
   pub not_next : (txn next : ℕ) → next ≡ slice_index_or counts shell 0 → (txn ≡ next → ⊥) → IsNextIn base o (shell, txn) → ⊥
   not_next txn next is other in' = other (in'.next ∙ sym (is ∙ are.each shell))
 

@@ -1,4 +1,4 @@
-use Rattle.std.proofs.Common.{◌≡◌, ◌∙◌, Ok, subst, rules, arith}
+use Rattle.std.proofs.Common.{◌∙◌, Ok, subst, rules, arith}
 use Rattle.fx_run.specs.Course.{Pursues}
 use Rattle.fx_run.specs.Works.{reader_of}
 use Rattle.fx_run.proofs.Starts.{Begins, begins_from, begins_shaped, begins_sound, ran_to, ran_stopped}

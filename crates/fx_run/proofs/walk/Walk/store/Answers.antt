@@ -1,4 +1,4 @@
-use Rattle.std.proofs.Common.{refl, ap, sym}
+use Rattle.std.proofs.Common.{refl, ap}
 use Rattle.fx_expr.specs.Eval.{eval_of}
 use Rattle.fx_expr.specs.Views.{expr_tree, tree_of}
 use Rattle.fx_spec.specs.Edit.{store_at}
