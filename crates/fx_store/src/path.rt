@@ -11,7 +11,7 @@ ghost use Rattle.fx_store.specs.Resolve.{◌/ₚ◌, parent};
 ghost use Rattle.fx_store.specs.declared.limits.TheConstants.{MAX_PATH_NAMES};
 
 use crate::limits::MAX_PATH_NAMES;
-use crate::name::{Name, PathFault, is_name};
+use crate::name::{Name, PathFault};
 use crate::parts::{add_names, are_names, count_parts};
 use fx_base::NoMemory;
 use std::alloc::{AllocError, Global};
@@ -55,16 +55,6 @@ impl Path {
         Path {
             names: Vec::new(alloc),
         }
-    }
-
-    /// The path of an entry of the root.
-    pub(crate) fn of_name(alloc: Global, name: Name) -> Result<Path, NoMemory>
-        ensures { IfOk result (λ p. p ≡ name ∷ []) }
-    {
-        prove!(is_name(name.as_slice()));
-        let mut names = Vec::new(alloc);
-        names.push(name)?;
-        Ok(Path { names })
     }
 
     /// Reads a path text: `/`, or each name with a `/` before it. It is `BadName` where it is no path text of any

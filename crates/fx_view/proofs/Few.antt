@@ -154,10 +154,6 @@ module _ {K X : Type 0} (eq : K → K → Bool) (k : K) (v : X) where
       at true none rest = absurd (cc)
       at false none rest = ap (λ zs. x ∷ zs) (rest none)
 
-  pub push_first : (es ys : List (K × X)) → length ys ≡ 0 → (es ++ (k, v) ∷ []) ++ ys ≡ (es ++ ys) ++ (k, v) ∷ []
-  push_first es [] empty = append-nil (es ++ (k, v) ∷ []) ∙ ap (λ zs. zs ++ (k, v) ∷ []) (sym (append-nil es))
-  push_first es (y ∷ ys) empty = absurd (omega arith)
-
 -- ---- a read at another position
 
 module _ (position : ℕ) where

@@ -1,5 +1,5 @@
 -- A call over a reader that has read nothing yet of a whole filestore answers what its rule answers there.
-use Rattle.std.proofs.Common.{◌≡◌, ℕ, true, List, [], Ok, Err, Result, sym, subst}
+use Rattle.std.proofs.Common.{◌≡◌, ℕ, true, List, [], Ok, Err, subst}
 use Rattle.fx_store.specs.Rule.{Ask, Known, answer}
 use Rattle.fx_store.specs.Whole.{Store}
 use Rattle.fx_view.specs.declared.reader.Stop.{Stop}

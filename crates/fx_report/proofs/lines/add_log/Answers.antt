@@ -1,8 +1,8 @@
-use Rattle.std.proofs.Common.{◌≡◌, ◌+◌, ◌++◌, ◌≤◌, drop, length, refl, sym, ap, ◌∙◌, arith, append_assoc, append-nil}
+use Rattle.std.proofs.Common.{◌+◌, ◌++◌, ◌≤◌, drop, length, refl, sym, ap, ◌∙◌, arith, append_assoc, append-nil}
 use Rattle.std.proofs.lemmas.List.{drop_all}
 use Rattle.fx_base.proofs.Lists.{drop_next}
-use Rattle.fx_report.specs.Entries.{entries_of, printed}
-use Rattle.fx_report.specs.Report.{entries_text, entry_text}
+use Rattle.fx_report.specs.Entries.{entries_of}
+use Rattle.fx_report.specs.Report.{entries_text}
 use Rattle.fx_report.proofs.Logs.{entry_there, entries_of_length}
 use Rattle.fx_report.proofs.lines.add_log.Goals as goal
 use Rattle.fx_report.proofs.lines.add_log.Goals.{in-Some+in_ok-add_settled, in_default}
