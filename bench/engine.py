@@ -14,7 +14,7 @@ import measure
 import sqlite_peer
 from goals import Goals, growth, of_peer, seconds
 from looks import THROUGH, looking
-from threads import set_of
+from threads import RETRIES, set_of
 from trace import traced, write_scripts
 
 SIZES = [1_000, 10_000, 100_000]
@@ -23,6 +23,7 @@ REPEATS = 3
 LOOP = growth(4, 5)
 # What a line of so many has to reach.
 TRACED = {10_000: of_peer(1.5), 100_000: seconds(2)}
+RUNS = {100_000: of_peer(1.5)}
 LOOPED = {10_000: seconds(0.5)}
 PROJECTS = "abcdefghijklmnop"
 DESCRIPTION = '{(p :: <n : ("count" :: file), ("log" :: dir)>) | p in %s}\n'
@@ -46,10 +47,12 @@ def project_of(i: int) -> int:
     return i * 5 % len(PROJECTS)
 
 
-def projects(count: int) -> measure.Line:
+def projects(count: int) -> Iterator[measure.Line]:
     """A trace of `count` transactions.
 
-    One of eight counts, and the others store, so that 100,000 fit into 64 scripts.
+    One of eight counts, and the others store, so that 100,000 fit into 64 scripts. A transaction
+    that meets a conflict is run again. So the second line is of the runs, beside SQLite with as
+    many transactions.
     """
     with tempfile.TemporaryDirectory() as scratch:
         folder = os.path.join(scratch, "in")
@@ -62,28 +65,41 @@ def projects(count: int) -> measure.Line:
         ]
         scripts = write_scripts(scratch, texts)
         steps: list[sqlite_peer.Step] = [(project_of(i), None) for i in range(count)]
-        runs, peers = [], []
+        runs, peers, as_often = [], [], []
         for _ in range(REPEATS):
-            runs.append(traced(scratch, spec, folder, scripts, count))
+            ran = traced(scratch, spec, folder, scripts, count)
+            runs.append(ran)
             peers.append(sqlite_peer.in_memory(len(PROJECTS), [steps]))
+            again = steps * (retries_of(ran) // count) + steps[: retries_of(ran) % count]
+            as_often.append(sqlite_peer.in_memory(len(PROJECTS), [steps, again]))
     ran = min(runs, key=lambda it: it.seconds)
-    goals = (TRACED[count],) if count in TRACED else ()
-    return measure.Line(
-        "trace: transactions on 16 projects",
-        count,
-        ran.seconds,
-        ran.peak_kib,
-        "SQLite, memory",
-        min(peers),
-        f"{len(scripts)} scripts",
-        goals,
-    )
+    for kind, size, peer, goals in (
+        ("transactions", count, min(peers), TRACED.get(count)),
+        ("runs of transactions", count + retries_of(ran), min(as_often), RUNS.get(count)),
+    ):
+        yield measure.Line(
+            f"trace: {kind} on 16 projects",
+            size,
+            ran.seconds,
+            ran.peak_kib,
+            "SQLite, memory",
+            peer,
+            f"{len(scripts)} scripts, {len(ran.out):,} bytes printed",
+            (goals,) if goals else (),
+        )
+
+
+def retries_of(ran: measure.Run) -> int:
+    """How often a transaction of a run was run again."""
+    found = RETRIES.search(ran.out)
+    assert found, "each report has a line of its retries"
+    return int(found[1])
 
 
 def lines(sizes: list[int]) -> Iterator[measure.Line]:
     """The lines of this bench, of these sizes or its own."""
     for count in sizes or SIZES:
-        yield projects(count)
+        yield from projects(count)
     for kind, script, goals in EACH:
         for count in sizes or EACH_SIZES:
             more = (LOOPED[count],) if goals and count in LOOPED else ()

@@ -7,6 +7,7 @@ use Rattle.fx_text.specs.declared.text.TheConstants.{TEXT_LIMIT}
 use Rattle.fx_expr.specs.declared.word.TheConstants.{WORD_LIMIT}
 use Rattle.fx_read_report.specs.declared.values.TheConstants.{VALUE_LEVELS}
 use Rattle.fx_folder.specs.declared.limits.TheConstants.{MAX_NODES, MAX_BYTES, MAX_TABLE}
+use Rattle.fx_disk.specs.declared.disk.TheConstants.{MOST_ENTRIES}
 use Rattle.fx_inputs.specs.declared.views.TheConstants.{VIEWS_WORD}
 use Rattle.fx_commands.specs.declared.auditing.reading.TheConstants.{REPORT_LIMIT, REPORT_WORD}
 
@@ -28,4 +29,5 @@ pub record LimitsAreThese : Type 0 where
   pub nodes : MAX_NODES ≡ 100000
   pub bytes : MAX_BYTES ≡ 67108864
   pub table : MAX_TABLE ≡ 33554432
+  pub entries : MOST_ENTRIES ≡ 1000000
   pub views_word : VIEWS_WORD ≡ 4
