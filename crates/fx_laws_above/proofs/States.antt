@@ -27,7 +27,7 @@ use Rattle.fx_spec.specs.Edit.{set_to}
 use Rattle.fx_spec.specs.Laws.{is_turn}
 use Rattle.fx_spec.specs.Order.{first_numbers}
 use Rattle.fx_spec.specs.Plans.{Turn}
-use Rattle.fx_spec.specs.Transaction.{end, left, left_nodes}
+use Rattle.fx_spec.specs.Transaction.{end, left_nodes}
 use Rattle.fx_spec.proofs.EditsKeep.{dir_node}
 use Rattle.fx_spec.proofs.EditsMake.{has-with}
 use Rattle.fx_spec.proofs.EditsWhole.{update_here, update_away}

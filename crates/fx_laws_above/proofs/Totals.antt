@@ -1,16 +1,15 @@
 -- Each complete order of a number's case is summed up to the same numbers.
-use Rattle.std.proofs.Common.{◌≡◌, ℕ, zero, suc, ◌+◌, ◌-◌, ◌*◌, ◌/◌, ◌%◌, ◌^◌, ◌<◌, ◌≤◌, ℤ, pos, ◌+ℤ◌, cond, not, ◌==◌, nat_eq, List, [], ◌∷◌, ◌++◌, map, take, length, get_or, Option, Some, None, refl, sym, ap, subst, ◌∙◌, arith, codes}
+use Rattle.std.proofs.Common.{◌≡◌, ℕ, zero, suc, ◌+◌, ◌*◌, ◌<◌, ◌≤◌, pos, ◌+ℤ◌, cond, not, nat_eq, List, [], ◌∷◌, ◌++◌, take, length, get_or, Option, Some, refl, sym, ap, subst, ◌∙◌, arith, codes}
 use Rattle.std.specs.Fmt.{decimal, signed_decimal, digits}
-use Rattle.std.specs.FinMap.{get, len, len-entries}
-use Rattle.std.specs.List.{All, count_by, sum_by, slice_get, range_with_len}
+use Rattle.std.specs.FinMap.{get, len-entries}
+use Rattle.std.specs.List.{All, count_by, sum_by, slice_get}
 use Rattle.std.proofs.Math.Seq.{take-length, take-suc}
 use Rattle.std.proofs.lemmas.Bool.{eq-eqb, and_from}
 use Rattle.std.proofs.lemmas.List.{get_or_past, length-take-le}
 use Rattle.std.proofs.lemmas.List.FromFn.{get_or-map-range_with_len, length-map-range_with_len}
 use Rattle.std.proofs.lemmas.List.Sums.{sum_by-cons, sum_by_push, sum_by_more_le}
-use Rattle.std.proofs.lemmas.Option.{slice_get-get_or, slice_get_within, get_or_from_slice_get}
+use Rattle.std.proofs.lemmas.Option.{slice_get-get_or}
 use Rattle.fx_store.specs.declared.node.Node.{Node}
-use Rattle.fx_store.specs.declared.node.Node.TheVariants.{File, Dir}
 use Rattle.fx_store.specs.Whole.{Nodes}
 use Rattle.fx_spec.specs.declared.refusal.End.{End}
 use Rattle.fx_spec.specs.CommandTree.{CommandTree}
@@ -18,18 +17,17 @@ use Rattle.fx_spec.specs.Laws.{is_turn}
 use Rattle.fx_spec.specs.Order.{BaseTree, IsComplete, after_txn, after_all, state, first_numbers}
 use Rattle.fx_spec.specs.Plans.{Turn, script_of, count_of, txn_of}
 use Rattle.fx_spec.specs.Transaction.{end, left_nodes}
-use Rattle.fx_spec.proofs.Orders.{state-front, state-next}
 use Rattle.fx_report.specs.declared.printed.PrintedEntry.{PrintedEntry}
 use Rattle.fx_report.specs.Entries.{commands_or_none, entry, entries_from, entries_of}
-use Rattle.fx_gen.specs.Notes.{nodes, project}
+use Rattle.fx_gen.specs.Notes.{nodes}
 use Rattle.fx_gen.specs.Scripts.{kind_of, project_of, counting_of, logging_of}
 use Rattle.fx_gen.proofs.Ranges.{counting_rest}
 use Rattle.fx_gen.specs.Trees.{description_tree, txn_tree, script_tree}
 use Rattle.fx_large_commands.specs.Base.{generated_base, plan_to}
-use Rattle.fx_large_commands.specs.Summary.{is_done, done_of, integer_or_zero, counted_at, logged_at, counted_to, logged_to, node_count, lines, summary}
-use Rattle.fx_laws_above.specs.Totals.{counting_total, logs, five_lines, last_generated, SumsUp, LargeTellsTheSame}
+use Rattle.fx_large_commands.specs.Summary.{is_done, done_of, integer_or_zero, counted_at, logged_at, counted_to, logged_to, node_count, lines}
+use Rattle.fx_laws_above.specs.Totals.{counting_total, logs, SumsUp, LargeTellsTheSame}
 use Rattle.fx_laws_above.proofs.Generated.{begins}
-use Rattle.fx_laws_above.proofs.Counting.{IsOne, number_of, each_is_one, each_once, counted_once, has_1600}
+use Rattle.fx_laws_above.proofs.Counting.{IsOne, each_is_one, each_once, counted_once, has_1600}
 use Rattle.fx_laws_above.proofs.Reading.{read_decimal}
 use Rattle.fx_laws_above.proofs.States.{Stands, is_logging, is_counting, logs_at, step, either}
 use Rattle.fx_laws_above.proofs.Walks.{count_path, log_path}
