@@ -67,6 +67,6 @@ vouches_missed start v w p q old new here more within vouches kept =
       stand = subst (AreAt w p) (sym kept) (at_on v w p old more within vouches.stand);
     })
 
--- the same between views that are these
-pub more_by : (v start w now : LogView) → v ≡ start → w ≡ now → HasSeenMore v w → HasSeenMore start now
-more_by v start w now first last more = subst (λ w. HasSeenMore start w) last (subst (λ v. HasSeenMore v w) first more)
+-- the pass has seen more, and more again, up to a view that is this one
+pub more_by : (start v w now : LogView) → HasSeenMore start v → w ≡ now → HasSeenMore v w → HasSeenMore start now
+more_by start v w now first last more = subst (HasSeenMore start) last (see_on start v w first more)

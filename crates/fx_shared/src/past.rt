@@ -1,4 +1,4 @@
-//! A reader of one state of a shared log.
+//! A reader of the state of a shared log at the turn that opened it.
 ghost use Rattle.std.specs.Prelude.{◌≡◌, ◌≤◌, [], true, false, Some, is_some, length, IfOk, OnErr, refl};
 ghost use Rattle.fx_turn.specs.Seats.{view};
 ghost use Rattle.fx_shared.specs.Passes.{HasSeenMore};
@@ -18,8 +18,9 @@ use std::sync::Wait;
 /// A pass of a shared log of which each state can be looked at.
 pub type SnapPass = Seat<Versioned>;
 
-/// A reader of what stood after so many entries of a shared log, with a pass of its own. It looks once at each path that it
-/// has not read, and never answers `Needs`. Before each look it passes the gate.
+/// A reader of what stood in a shared log at the turn that opened it, with a pass of its own. No reader of an older state
+/// can be made. It looks once at each path that it has not read, and never answers `Needs`. Before each look it passes the
+/// gate.
 ///
 /// It vouches for the following. Its reads are of what stood then. The position and the transaction are those from the
 /// start. So is the pass, with all that it had seen there and as many entries of its own.
@@ -42,24 +43,24 @@ pub struct Past<'a, R: Wait, G: Gate> {
 }
 
 impl<'a, R: Wait, G: Gate> Past<'a, R, G> {
-    /// Nothing read yet, after so many of the entries that the pass has seen.
-    pub fn new(
+    /// Takes one turn, and reads nothing yet. The reader is of what stands at that turn: its position is the number of all
+    /// entries that the pass has then seen. No gate is passed for this turn.
+    pub fn open(
         rt: &'a R,
         alloc: Global,
         snaps: &'a Snaps,
-        pass: SnapPass,
+        mut pass: SnapPass,
         txn: u32,
-        position: u64,
         gate: &'a G,
     ) -> Past<'a, R, G>
         requires ready { IsReadyPass snaps.now pass }
-        requires within { position ≤ length (view pass).seen }
         ensures snaps { result.snaps.now ≡ snaps.now }
-        ensures pass { result.pass ≡ pass }
+        ensures seen { HasSeenMore (view pass) (view result.pass) }
+        ensures position { result.position ≡ length (view result.pass).seen }
         ensures txn { result.txn ≡ txn }
-        ensures position { result.position ≡ position }
         ensures reads { result.reads ≡ [] }
     {
+        let position = snaps.begin(rt, &mut pass);
         let Some(shell) = pass.number() else {
             unreachable!()
         };
@@ -73,6 +74,13 @@ impl<'a, R: Wait, G: Gate> Past<'a, R, G> {
             position,
             reads: Reads::new(alloc),
         }
+    }
+
+    /// How many entries the pass had seen at the turn that opened the reader.
+    pub fn position(&self) -> u64
+        ensures { result ≡ self.now.position }
+    {
+        self.position
     }
 
     /// The pass, with all that it has seen.

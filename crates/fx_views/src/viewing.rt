@@ -26,35 +26,26 @@ pub struct Onlooker {
     pub viewed: Viewed,
 }
 
-/// Runs a view at the state after so many entries.
+/// Runs a view at the state that is the last one when its reader is opened: not before what the pass had seen.
 fn view_at<R: Wait, G: Gate>(
     crew: &Crew<'_, R, G, Versioned>,
     views: &Arc<Base>,
     pass: SnapPass,
     txn: u32,
-    position: u64,
 ) -> Result<(SnapPass, View), NoMemory>
     requires ready { IsReadyPass crew.now.shares.now pass }
     requires based { (view pass).base ≡ Some (base_of crew.now) }
     requires alike { AreAlike (base_of crew.now) (base_tree views.now.value) }
-    requires within { position ≤ length (view pass).seen }
     requires planned { txn < count_of (base_tree views.now.value).plan 0 }
     ensures ready { IfOk result (λ r. IsReadyPass crew.now.shares.now r.0) }
     ensures more { IfOk result (λ r. HasSeenMore (view pass) (view r.0)) }
-    ensures position { IfOk result (λ r. r.1.position ≡ position) }
+    ensures after { IfOk result (λ r. length (view pass).seen ≤ r.1.position) }
     ensures view { IfOk result (λ r.
         IsViewSeen (base_of crew.now) (base_tree views.now.value) txn (view r.0) r.1) }
 {
     let _whole = views.loaded.places();
-    let mut past = Past::new(
-        crew.rt,
-        crew.alloc,
-        crew.shares,
-        pass,
-        txn,
-        position,
-        crew.gate,
-    );
+    let mut past = Past::open(crew.rt, crew.alloc, crew.shares, pass, txn, crew.gate);
+    let position = past.position();
     let ended = run(crew.alloc, views, 0, txn, &mut past);
     let pass = past.into_pass();
     match ended {
@@ -94,13 +85,9 @@ fn look_once<R: Wait, G: Gate>(
         crew.now.shares.now shell (txn + 1)) }
     ensures after { IfOk result (IsViewedAfter (view onlooker.pass)) }
 {
-    let Onlooker {
-        mut pass,
-        mut viewed,
-    } = onlooker;
+    let Onlooker { pass, mut viewed } = onlooker;
     crew.gate.pass(crew.rt, shell, txn, Moment::BeforeLook);
-    let position = crew.shares.begin(crew.rt, &mut pass);
-    let (pass, view) = view_at(crew, views, pass, txn, position)?;
+    let (pass, view) = view_at(crew, views, pass, txn)?;
     viewed.push(view)?;
     Ok(Onlooker { pass, viewed })
 }
