@@ -1,6 +1,6 @@
 """`txforest run` over folders of directories, of deep trees and of links.
 
-Beside it stand its calls alone in memory, and `cp -r` of the same folder on a disk.
+Beside it stand its calls alone, and the time of `cp -r` of the same folder is told.
 """
 
 from __future__ import annotations

@@ -1,7 +1,7 @@
-"""`txforest run` over flat folders of small files, and over one large file.
+"""`txforest run` over flat folders of small files, and over files as large as they may be.
 
-In memory the calls of `run` to the system and nothing else (`bare.c`) stand beside it, and the time
-of `cp -r` of the same folder is told. On a disk `cp -r` stands beside it.
+The calls of `run` to the system and nothing else (`bare.c`) stand beside it, and the time of
+`cp -r` of the same folder is told.
 """
 
 from __future__ import annotations
@@ -20,6 +20,7 @@ from goals import Goals, of_peer
 
 SIZES = [1_000, 10_000, 99_999]
 LARGE_FILE = 1_048_576
+LARGE_FILES = 60
 DESCRIPTION = '("f00000" :: file)\n'
 SCRIPT = "txn { down fetch x : str }\n"
 REPORT = b"forest report 1\nentries 1\nentry 0 shell 0 txn 0 done\nretries 0\nend\n"
@@ -28,7 +29,7 @@ REPEATS_ON_DISK = 1
 # Of 20,000 files and more.
 LARGE = 20_000
 CP, CALLS = "cp -r", "the calls alone"
-OF_CALLS, OF_CP_ON_DISK = of_peer(1.25), of_peer(0.3)
+OF_CALLS, OF_CALLS_ON_DISK = of_peer(1.25), of_peer(1.5)
 
 
 def flat_folder(path: str, count: int) -> None:
@@ -37,9 +38,10 @@ def flat_folder(path: str, count: int) -> None:
         measure.write(path, f"f{i:05}", f"{i % 1000}")
 
 
-def large_folder(path: str, size: int) -> None:
+def large_files(path: str, count: int) -> None:
     os.mkdir(path)
-    measure.write(path, "f00000", "x" * size)
+    for i in range(count):
+        measure.write(path, f"f{i:05}", "x" * LARGE_FILE)
 
 
 @functools.cache
@@ -67,9 +69,9 @@ def loaded_and_saved(
 ) -> measure.Line:
     """A run over a folder that `make` makes, which leaves it as it is.
 
-    Beside it stand its calls alone, and on a disk `cp -r` of the folder. Without a compiler it is
-    `cp -r` in memory too, and nothing is asked. Nothing is asked of instructions either, since
-    those of the system, which are most of what a call takes, are not counted.
+    Beside it stand its calls alone. Without a compiler it is `cp -r`, and nothing is asked. Nothing
+    is asked of instructions either, since those of the system, which are most of what a call takes,
+    are not counted.
     """
     with tempfile.TemporaryDirectory(dir=disk) as scratch:
         folder = os.path.join(scratch, "in")
@@ -88,10 +90,8 @@ def loaded_and_saved(
             sys.exit(f"another report: {ours.out[:200]!r}")
         measure.check_same(folder, out)
     peers = {CP: copied.seconds, **{CALLS: ran.seconds for ran, _ in calls}}
-    peer = CP if disk else CALLS
-    if peer not in peers:
-        peer, goals = CP, ()
-    if measure.Counting.is_on:
+    peer = CALLS if CALLS in peers else CP
+    if measure.Counting.is_on or peer is CP:
         goals = ()
     told = [f"{name} {measure.amount(it)}" for name, it in peers.items() if name != peer]
     return measure.Line(
@@ -120,13 +120,11 @@ def everywhere(
         yield loaded_and_saved(kind, make, size, description, script, goals)
     most = sizes[-1]
     for disk in measure.disks():
-        goals = (OF_CP_ON_DISK,) if most >= LARGE else ()
+        goals = (OF_CALLS_ON_DISK,) if most >= LARGE else ()
         yield loaded_and_saved(kind, make, most, description, script, goals, disk)
 
 
 def lines(sizes: list[int]) -> Iterator[measure.Line]:
     """The lines of this bench, of these sizes or its own."""
-    yield loaded_and_saved(
-        "run: bytes in one file", large_folder, LARGE_FILE, goals=(OF_CALLS,)
-    )
+    yield loaded_and_saved("run: files of 1 MiB", large_files, LARGE_FILES, goals=(OF_CALLS,))
     yield from everywhere("run: files in one folder", flat_folder, sizes or SIZES)

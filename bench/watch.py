@@ -21,6 +21,8 @@ FILES = 50_000
 WALKED = [5_000, 50_000]
 WALKS = 10
 REPEATS = 3
+# Fewer reads take less than the walk that is left out swings by.
+JUDGED = 10_000
 # The file `a` is not there, so the answer rests on it alone.
 FEW = '{(n :: file) | n in (one("a") union one("b"))}\n'
 STORE = 'txn{to("b")down store("%d")}\n'
@@ -80,7 +82,7 @@ def read_only(count: int) -> measure.Line:
         "trace",
         max(traced.seconds - idle_trace.seconds, 0.001),
         f"load, save and one walk, {measure.amount(idle.seconds)}, left out",
-        (of_peer(1.3),),
+        (of_peer(1.3),) if count >= JUDGED else (),
     )
 
 
