@@ -20,5 +20,6 @@ returns c = record {
   nodes = refl;
   bytes = refl;
   table = refl;
+  entries = refl;
   views_word = refl;
 }
