@@ -1,6 +1,8 @@
 /* bare IN OUT: copies a folder of directories and files by the calls that `run` makes for it, and does nothing else: each
  * directory is listed and each entry's kind asked, in order of names; each file is read to its end; then each directory is
- * made and each file written. It stops at the first error. A bench tells its time beside the program's and that of `cp -r`. */
+ * made and each file written.
+ * bare --commits FILE COUNT: makes the calls by which `journal` keeps and tells so many commits of one look.
+ * It stops at the first error. A bench tells its time beside the program's. */
 
 #define _GNU_SOURCE
 #include <dirent.h>
@@ -91,7 +93,29 @@ static void write_entry(const struct entry *it) {
     close(file);
 }
 
+static void put(int file, const char *bytes, size_t size, off_t at) {
+    if (at >= 0 && lseek(file, at, SEEK_SET) != at) stop("lseek");
+    if (write(file, bytes, size) != (ssize_t)size) stop("write");
+    if (at >= 0 && fdatasync(file) != 0) stop("fdatasync");
+}
+
+static void commit_all(const char *journal, int count) {
+    int file = open(journal, O_RDWR | O_CREAT | O_CLOEXEC, 0666);
+    if (file < 0) stop(journal);
+    for (int i = 0; i < count; i++) {
+        put(1, "look 0 \"/a\" 1000\n", 17, -1);
+        put(file, "\0\0\0\0\0\0\0\0\0", 9, 9 * (off_t)i + 1);
+        put(file, "\1", 1, 9 * (off_t)i);
+        put(1, "settled 0 1000\n", 15, -1);
+    }
+    close(file);
+}
+
 int main(int count, char **words) {
+    if (count == 4 && !strcmp(words[1], "--commits")) {
+        commit_all(words[2], atoi(words[3]));
+        return 0;
+    }
     if (count != 3) return 2;
     in = words[1], out = words[2];
     walk("");

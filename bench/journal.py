@@ -2,8 +2,9 @@
 
 On a disk it stands beside a commit by SQLite with its rollback journal and `synchronous=full`,
 measured in turns on the same file system. In memory, where a sync costs nothing, it stands beside
-`trace` of the same scripts. The time of a run that settles nothing, with its loading and saving, is
-left out on the side of `journal`. SQLite with a WAL, which syncs less at a commit, is told beside.
+`trace` of the same scripts and the calls alone that keep and tell the commits (`bare.c`). The time
+of a run that settles nothing, with its loading and saving, is left out on the side of `journal` on
+a disk. SQLite with a WAL, which syncs less at a commit, is told beside.
 """
 
 from __future__ import annotations
@@ -19,6 +20,7 @@ from collections.abc import Iterator
 import measure
 import trace
 from goals import of_peer
+from run import bare
 
 SIZES = [500]
 IN_MEMORY = 10_000
@@ -99,25 +101,38 @@ def on_disk(parent: str, count: int) -> measure.Line:
     )
 
 
+def calls_alone(scratch: str, count: int) -> float:
+    """The seconds of the calls of so many commits, or nothing where no compiler is."""
+    if not bare():
+        return 0.0
+    path = os.path.join(scratch, "calls")
+    seconds = [
+        measure.done([*bare(), "--commits", path, str(commits)], scratch).seconds
+        for commits in (0, count)
+    ]
+    return max(seconds[1] - seconds[0], 0.0)
+
+
 def in_memory(count: int) -> measure.Line:
-    """Commits in memory, beside `trace`."""
+    """Commits in memory, beside `trace` and the calls alone."""
     with tempfile.TemporaryDirectory() as scratch:
         spec, folder, scripts = case(scratch, count)
-        pairs = []
+        ours, plain, calls = [], [], []
         for _ in range(REPEATS):
-            ran = journaled(scratch, spec, folder, scripts, count)
+            ours.append(journaled(scratch, spec, folder, scripts, count))
             shutil.rmtree(os.path.join(scratch, "out"), ignore_errors=True)
-            pairs.append((ran, trace.traced(scratch, spec, folder, scripts, count)))
-    ours = min((pair[0] for pair in pairs), key=lambda ran: ran.seconds)
-    plain = min(pair[1].seconds for pair in pairs)
+            plain.append(trace.traced(scratch, spec, folder, scripts, count).seconds)
+            calls.append(calls_alone(scratch, count))
+    ran = min(ours, key=lambda it: it.seconds)
     return measure.Line(
         "journal: commits in memory",
         count,
-        ours.seconds,
-        ours.peak_kib,
-        "trace",
-        plain,
-        goals=(of_peer(1.5),),
+        ran.seconds,
+        ran.peak_kib,
+        "trace and the calls alone" if bare() else "trace",
+        min(plain) + min(calls),
+        f"trace {measure.amount(min(plain))}",
+        (of_peer(1.25),) if bare() else (),
     )
 
 

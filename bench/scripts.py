@@ -23,13 +23,13 @@ FILES = 1_000
 TRANSACTIONS = 200
 REPEATS = 5
 # What so many scripts have to reach, beside as many programs at once.
-OF_PROGRAMS = 1.25
+OF_PROGRAMS = {2: 1.2, 4: 1.4}
 
 
 def goals_of(scripts: int) -> Goals:
     """What is asked of so many scripts, where each may have a processor."""
     has_room = scripts <= len(os.sched_getaffinity(0))
-    return (of_peer(OF_PROGRAMS),) if scripts > 1 and has_room else ()
+    return (of_peer(OF_PROGRAMS[scripts]),) if scripts in OF_PROGRAMS and has_room else ()
 
 
 def check_done(ran: measure.Run, count: int) -> None:
