@@ -48,6 +48,30 @@ def tool():
 
 terminal.main(tool)
 """
+# A commit holds signals. One that was lost just before waits with them.
+HELD = """
+import os, signal, sys, time
+
+signal.signal(signal.SIGINT, signal.default_int_handler)
+from txforest import commit, terminal
+
+class Cleared:
+    def __del__(self):
+        os.kill(os.getpid(), 2)
+        time.sleep(0)
+
+def tool():
+    terminal.SOON = 0.1
+    Cleared()
+    before = commit.hold_signals()
+    time.sleep(0.3)
+    os.write(1, b"committed")
+    if sys.argv[1] == "let":
+        commit.let_signals(before)
+        time.sleep(20)
+
+terminal.main(tool)
+"""
 
 
 class Told(unittest.TestCase):
@@ -150,6 +174,19 @@ class Told(unittest.TestCase):
             words, capture_output=True, text=True, timeout=60, check=False, cwd=TOOLS
         )
         self.assertEqual((ran.returncode, ran.stdout, ran.stderr), (130, "", ""))
+
+    def test_a_lost_interrupt_ends_no_commit(self) -> None:
+        for word, status in (("let", 130), ("hold", 0)):
+            ran = subprocess.run(
+                [sys.executable, "-c", HELD, word],
+                capture_output=True,
+                text=True,
+                timeout=60,
+                check=False,
+                cwd=TOOLS,
+            )
+            told = (word, ran.returncode, ran.stdout, ran.stderr)
+            self.assertEqual(told, (word, status, "committed", ""))
 
 
 if __name__ == "__main__":

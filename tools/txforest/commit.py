@@ -137,9 +137,9 @@ def commit(
 
 def hold_signals() -> set[int]:
     """Signals that would end the tool wait from now on; answers those that waited before."""
-    from .signals import ENDING, signal
+    from .signals import HELD, signal
 
-    return {int(number) for number in signal.pthread_sigmask(signal.SIG_BLOCK, ENDING)}
+    return {int(number) for number in signal.pthread_sigmask(signal.SIG_BLOCK, HELD)}
 
 
 def let_signals(before: set[int]) -> None:

@@ -183,7 +183,7 @@ class Command:
         """
         from .copies import CannotEnter
         from .mounts import adopt_orphans
-        from .signals import ENDING, signal
+        from .signals import HELD, signal
 
         adopt_orphans()
         self.drop()
@@ -201,7 +201,7 @@ class Command:
         try:
             status = waited(child, copy.helper(), self.words)
         except BaseException:
-            signal.pthread_sigmask(signal.SIG_BLOCK, ENDING)
+            signal.pthread_sigmask(signal.SIG_BLOCK, HELD)
             end_children()
             raise
         if refused:

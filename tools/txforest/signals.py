@@ -13,8 +13,10 @@ else:
     import _signal as signal
 
 ENDING = (signal.SIGTERM, signal.SIGHUP, signal.SIGINT)  # they end a tool, if nobody ignores them
+AGAIN = signal.SIGALRM  # raises once more one of them that Python has dropped
+HELD = (*ENDING, AGAIN)  # they wait while a tool must not end
 
-__all__ = ["ENDING", "end_at_once", "signal"]
+__all__ = ["AGAIN", "ENDING", "HELD", "end_at_once", "signal"]
 
 
 def end_at_once() -> None:

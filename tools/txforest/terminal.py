@@ -276,15 +276,15 @@ def leave(number: int, _frame: object) -> NoReturn:
 
 def ask_again(lost: sys.UnraisableHookArgs) -> None:
     """Python drops an exception that comes while it clears an object away. If a signal has raised
-    it, a timer raises it once more, as soon as the tool is behind that."""
-    from .signals import signal
+    it, a timer raises it once more, as soon as the tool is behind that and holds no signals."""
+    from .signals import AGAIN, signal
 
     ended = lost.exc_value
     if not (isinstance(ended, SystemExit) and isinstance(ended.code, int) and ended.code > 128):
         sys.__unraisablehook__(lost)
         return
     number = ended.code - 128
-    signal.signal(signal.SIGALRM, lambda _, frame: leave(number, frame))
+    signal.signal(AGAIN, lambda _, frame: leave(number, frame))
     signal.setitimer(signal.ITIMER_REAL, SOON)
 
 
