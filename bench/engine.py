@@ -1,14 +1,15 @@
 """The engine on described trees.
 
-`trace` of many transactions over 16 projects, each with a counter and a log. And one transaction
-that goes through many files by `each`: reading, by `next` or by `to`, or storing.
+`trace` of many transactions over 16 projects, each with a counter and a log: counts on each of
+them, and counts on two of them alone, where conflicts are frequent. And one transaction that goes
+through many files by `each`: reading, by `next` or by `to`, or storing.
 """
 
 from __future__ import annotations
 
 import os
 import tempfile
-from collections.abc import Iterator
+from collections.abc import Callable, Iterator
 
 import measure
 import sqlite_peer
@@ -22,8 +23,9 @@ EACH_SIZES = [1_000, 4_000, 10_000, 16_000]
 REPEATS = 3
 LOOP = growth(4, 5)
 # What a line of so many has to reach.
-TRACED = {10_000: of_peer(1.5), 100_000: seconds(2)}
-RUNS = {100_000: of_peer(1.5)}
+TRACED: dict[int, Goals] = {10_000: (of_peer(1.5),), 100_000: (of_peer(1.5), seconds(2))}
+CROWDED: dict[int, Goals] = {10_000: (of_peer(1.5),), 100_000: (seconds(2),)}
+RUNS: dict[int, Goals] = {100_000: (of_peer(1.5),)}
 LOOPED = {10_000: seconds(0.5)}
 PROJECTS = "abcdefghijklmnop"
 DESCRIPTION = '{(p :: <n : ("count" :: file), ("log" :: dir)>) | p in %s}\n'
@@ -47,12 +49,38 @@ def project_of(i: int) -> int:
     return i * 5 % len(PROJECTS)
 
 
-def projects(count: int) -> Iterator[measure.Line]:
-    """A trace of `count` transactions.
+def counts_on_each(i: int) -> bool:
+    """Whether a transaction counts: one of eight of each project does."""
+    return i // len(PROJECTS) % COUNTS_IN == 0
 
-    One of eight counts, and the others store, so that 100,000 fit into 64 scripts. A transaction
-    that meets a conflict is run again. So the second line is of the runs, beside SQLite with as
-    many transactions.
+
+def counts_on_two(i: int) -> bool:
+    """Whether a transaction counts: one of eight does, all of them on two of the projects."""
+    return i % COUNTS_IN == 0
+
+
+def projects(count: int) -> Iterator[measure.Line]:
+    """Traces of `count` transactions: one that counts on each project, and one on two alone.
+
+    A transaction that meets a conflict is run again. So the last line is of the runs of the second
+    trace, beside SQLite with as many transactions.
+    """
+    ran, peer, _ = traced_beside(count, counts_on_each)
+    yield line("trace: transactions on 16 projects", count, ran, peer, TRACED.get(count, ()))
+    ran, peer, again = traced_beside(count, counts_on_two)
+    kind = "trace: transactions, counts on 2 of them"
+    yield line(kind, count, ran, peer, CROWDED.get(count, ()))
+    runs = count + retries_of(ran)
+    yield line("trace: runs of these transactions", runs, ran, again, RUNS.get(count, ()))
+
+
+def traced_beside(
+    count: int, is_count: Callable[[int], bool]
+) -> tuple[measure.Run, float, float]:
+    """The fastest of some traces of so many transactions, which count or else store.
+
+    Seconds of SQLite stand beside it: with as many transactions, and with as many as were run. One
+    of eight counts, so that 100,000 fit into 64 scripts.
     """
     with tempfile.TemporaryDirectory() as scratch:
         folder = os.path.join(scratch, "in")
@@ -61,7 +89,7 @@ def projects(count: int) -> Iterator[measure.Line]:
             measure.write(os.path.join(folder, name), "count", "0")
         spec = measure.write(scratch, "spec", DESCRIPTION % set_of(PROJECTS))
         texts = [
-            (STORE if i % COUNTS_IN else COUNT) % PROJECTS[project_of(i)] for i in range(count)
+            (COUNT if is_count(i) else STORE) % PROJECTS[project_of(i)] for i in range(count)
         ]
         scripts = write_scripts(scratch, texts)
         steps: list[sqlite_peer.Step] = [(project_of(i), None) for i in range(count)]
@@ -72,21 +100,15 @@ def projects(count: int) -> Iterator[measure.Line]:
             peers.append(sqlite_peer.in_memory(len(PROJECTS), [steps]))
             again = steps * (retries_of(ran) // count) + steps[: retries_of(ran) % count]
             as_often.append(sqlite_peer.in_memory(len(PROJECTS), [steps, again]))
-    ran = min(runs, key=lambda it: it.seconds)
-    for kind, size, peer, goals in (
-        ("transactions", count, min(peers), TRACED.get(count)),
-        ("runs of transactions", count + retries_of(ran), min(as_often), RUNS.get(count)),
-    ):
-        yield measure.Line(
-            f"trace: {kind} on 16 projects",
-            size,
-            ran.seconds,
-            ran.peak_kib,
-            "SQLite, memory",
-            peer,
-            f"{len(scripts)} scripts, {len(ran.out):,} bytes printed",
-            (goals,) if goals else (),
-        )
+    return min(runs, key=lambda it: it.seconds), min(peers), min(as_often)
+
+
+def line(kind: str, size: int, ran: measure.Run, peer: float, goals: Goals) -> measure.Line:
+    """A line of a trace beside SQLite."""
+    more = f"{retries_of(ran):,} retries, {len(ran.out):,} bytes printed"
+    return measure.Line(
+        kind, size, ran.seconds, ran.peak_kib, "SQLite, memory", peer, more, goals
+    )
 
 
 def retries_of(ran: measure.Run) -> int:
