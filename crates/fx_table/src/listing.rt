@@ -196,5 +196,5 @@ fn is_same(dir: &Path, path: &Path, k: u32) -> bool
     let Some(other) = path.name(k) else {
         unreachable!()
     };
-    name.cmp(other).is_eq()
+    name == other
 }
