@@ -1,5 +1,5 @@
 -- Items of a folder: which entry is its table, and where an item stands.
-use Rattle.fx_folder.proofs.Prelude.{◌≡◌, ℕ, zero, suc, ◌+◌, ◌<◌, ◌≤◌, Bool, true, false, cond, List, [], ◌∷◌, ◌++◌, length, drop, None, Some, refl, sym, ◌∙◌, ap, arith, append_assoc, append-nil, bytes_eq, slice_get, false≢true, same_Some, All-head, bytes_eq-Decides, none_past, HostKind, Parts, IsName, IsPath, Item, table_name, place_of, in_table, item, items_of}
+use Rattle.fx_folder.proofs.Prelude.{◌≡◌, ℕ, zero, suc, ◌+◌, ◌<◌, ◌≤◌, Bool, true, false, cond, List, [], ◌∷◌, ◌++◌, length, drop, None, Some, refl, sym, ◌∙◌, ap, arith, append_assoc, append-nil, bytes_eq, slice_get, false≢true, same_Some, All-head, bytes_eq-Decides, none_past, HostKind, Parts, IsName, IsPath, Item, table_name, in_table, item, items_of}
 use Rattle.fx_store.specs.Names.{is_name}
 
 pub reserved : is_name table_name ≡ false
@@ -57,13 +57,3 @@ no_item p es i j n k old todo next is so table =
     so ∙ ap (λ l. old ++ l) (sym (append-nil (items_of p (drop j es))))
     ∙ ap (λ b. old ++ (items_of p (drop j es) ++ cond b [] (item p (n, k) ∷ []))) (sym table)
     ∙ ap (λ l. old ++ items_of p l) (sym at)
-
--- ---- the text of an item
-
-place_pushed : (p : Parts) (n : List ℕ) → place_of (p ++ n ∷ []) ≡ place_of p ++ 47 ∷ n
-place_pushed [] n = ap (λ l. 47 ∷ l) (append-nil n)
-place_pushed (m ∷ p) n = ap (λ l. 47 ∷ m ++ l) (place_pushed p n) ∙ ap (λ l. 47 ∷ l) (sym (append_assoc m (place_of p) (47 ∷ n)))
-
--- the name of an entry behind the text of its folder
-pub place_behind : (p : Parts) (front n : List ℕ) → 47 ∷ front ≡ place_of p ++ 47 ∷ [] → 47 ∷ front ++ n ≡ place_of (p ++ n ∷ [])
-place_behind p front n is = ap (λ l. l ++ n) is ∙ append_assoc (place_of p) (47 ∷ []) n ∙ sym (place_pushed p n)

@@ -1,5 +1,5 @@
 -- What a folder is loaded as is a whole filestore.
-use Rattle.fx_folder.proofs.Prelude.{chosen_some, neither_some, some_of, Held, all_below, all_bytes, as_nodes, first_refused, last_name, linked, node_of_kind, refused_bytes, refused_entry, refused_kind, table_in, table_lines, unless_refused, unlisted, walked, with_table, LoadsAreWhole, IsRefused, Loads, both, first, second, strictly_sorted, above, parts_cmp, Entry, Tree, is_folder_kind, HostKind, IsWhole-same, IsName, IsPath, is_name, path_cmp, path_eq_same, path_total, Nodes, Node, Dir, File, Link, lines_made, IsLinked, find_listed, found, listed_whole, relisted, Mapped, listed, with_lines, table_name, AreOfBytes, IsOfBytes, is_dir, FolderCause, TableLine, All, Bool, Err, IfSome, IsSome, List, None, Ok, Option, Result, Some, T, [], ap, append_assoc, arith, cond, false, inl, inr, is_some, length, length-take, map, not, option_map, refl, subst, suc, sym, take, true, zero, ℕ, ◌&&◌, ◌++◌, ◌+◌, ◌-◌, ◌<◌, ◌∙◌, ◌∷◌, ◌≡◌, ◌≤◌, take-length, take-suc, and_parts, cases_Bool, false≢true, or_parts, nat_tests, All-nil, All-push, same_Some, find, from_entries, get, get-from_entries, is_sorted, below_all, option_or, eq_by_cmp, is_lt, bytes_eq, nat_le, nat_lt, MAX_BYTES, MAX_NODES, MAX_FILE_BYTES}
+use Rattle.fx_folder.proofs.Prelude.{chosen_some, neither_some, some_of, Held, all_below, all_bytes, as_nodes, first_refused, last_name, linked, node_of_kind, refused_bytes, refused_entry, refused_kind, table_in, table_lines, unless_refused, unlisted, walked, with_table, LoadsAreWhole, IsRefused, Loads, both, first, second, strictly_sorted, parts_cmp, Entry, Tree, is_folder_kind, HostKind, IsWhole-same, IsName, IsPath, is_name, path_cmp, path_eq_same, path_total, Nodes, Node, Dir, File, Link, lines_made, IsLinked, find_listed, found, listed_whole, relisted, Mapped, listed, with_lines, table_name, AreOfBytes, IsOfBytes, is_dir, FolderCause, TableLine, All, Bool, Err, IfSome, IsSome, List, None, Ok, Option, Result, Some, T, [], ap, append_assoc, arith, cond, false, inl, inr, is_some, length, length-take, map, not, option_map, refl, subst, suc, sym, take, true, zero, ℕ, ◌&&◌, ◌++◌, ◌+◌, ◌-◌, ◌<◌, ◌∙◌, ◌∷◌, ◌≡◌, ◌≤◌, take-length, take-suc, and_parts, cases_Bool, false≢true, or_parts, nat_tests, All-nil, All-push, same_Some, find, from_entries, get, get-from_entries, is_sorted, below_all, option_or, eq_by_cmp, is_lt, bytes_eq, nat_le, nat_lt, MAX_BYTES, MAX_NODES, MAX_FILE_BYTES}
 use Rattle.fx_outside.specs.declared.kind.HostKind.TheVariants as kind
 use Rattle.fx_outside.specs.Tree as host
 use Rattle.fx_table.proofs.Shapes.{IsNodeBounded}

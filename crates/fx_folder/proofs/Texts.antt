@@ -1,5 +1,5 @@
 -- Paths of entries of a folder, as texts.
-use Rattle.fx_folder.proofs.Prelude.{◌≡◌, inl, inr, ℕ, ◌==◌, ◌<◌, Bool, true, false, not, cond, ◌&&◌, ◌||◌, List, [], ◌∷◌, ◌++◌, length, All, append_assoc, append-nil, refl, sym, ◌∙◌, ap, arith, nat_lt, nat_le, bytes_eq, codes, list_all, list_any, slice_split, onto_first, is_utf8, IsUtf8, cases_Bool, and_from, nat_tests, list_all-append, length-slice_split, IsUtf8-append, IsUtf8-from_is_utf8, IsName, is_slash, is_nul, is_reserved, LetsIn, Parts, parts, is_fit, is_fit_part, All-head, All-tail, second_true, first_true, path_below, table_name, place_of}
+use Rattle.fx_folder.proofs.Prelude.{◌≡◌, inl, inr, ℕ, ◌==◌, ◌<◌, Bool, true, false, not, cond, ◌&&◌, ◌||◌, List, [], ◌∷◌, ◌++◌, length, All, append_assoc, append-nil, refl, sym, ◌∙◌, ap, arith, nat_lt, nat_le, bytes_eq, codes, list_all, list_any, slice_split, onto_first, is_utf8, cases_Bool, and_from, nat_tests, list_all-append, length-slice_split, IsName, is_slash, is_nul, is_reserved, LetsIn, Parts, parts, is_fit, is_fit_part, All-head, All-tail, second_true, first_true, path_below, table_name, place_of}
 use Rattle.fx_store.specs.Names.{is_name}
 
 -- what a name is, one fact after another
@@ -26,13 +26,6 @@ name_parts name is =
       unreserved = second_true (((a && b) && c) && d) e to_e;
       text = second_true ((((a && b) && c) && d) && e) (is_utf8 name) is;
     }
-
-pub name_is_text : (name : List ℕ) → IsName name → IsUtf8 name
-name_is_text name is = IsUtf8-from_is_utf8 name (name_parts name is).text
-
-pub utf8_then : (text name : List ℕ) → IsUtf8 text → IsUtf8 name → IsUtf8 (text ++ 47 ∷ name)
-unfolding lib.Utf8.encode
-utf8_then text name t n = IsUtf8-append text (47 ∷ name) t (IsUtf8-append (47 ∷ []) name (47 ∷ [], (refl, refl)) n)
 
 -- a text without a slash is one part
 

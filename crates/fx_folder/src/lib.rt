@@ -7,7 +7,6 @@ mod joining;
 pub mod laws;
 pub mod limits;
 mod loading;
-mod parent;
 mod pieces;
 mod readying;
 mod saving;

@@ -1,15 +1,13 @@
 //! Filestores as folders.
 ghost use Rattle.std.specs.Prelude.{◌≡◌, ◌≤◌, ◌++◌, ◌∷◌, [], true, Some, Ok, Err, IfOk, IfErr, OnOk, OnErr, IfSome};
 ghost use Rattle.std.specs.FinMap.{get, entries};
-ghost use Rattle.std.specs.Str.{IsUtf8};
 ghost use Rattle.fx_store.specs.Whole.{IsWhole};
-ghost use Rattle.fx_store.specs.Names.{IsPath};
 ghost use Rattle.fx_outside.specs.Path.{parts};
 ghost use Rattle.fx_outside.specs.Host.{WritesAt, WritesIn, FaultAt, FaultIn};
 ghost use Rattle.fx_outside.specs.declared.kind.HostFault.TheVariants.{Failed};
 ghost use Rattle.fx_outside.specs.Tree.{is_free_at, file, folder};
 ghost use Rattle.fx_folder.specs.declared.fault.SaveFault.TheVariants.{WriteFault, NotEmpty};
-ghost use Rattle.fx_table.specs.Places.{place_of, table_name};
+ghost use Rattle.fx_table.specs.Places.{place_of, table_name, StandsIn};
 ghost use Rattle.fx_table.specs.Entered.{levels_of};
 ghost use Rattle.fx_table.specs.Remaining.{AreLevels, IsLeftBelow, left_of};
 ghost use Rattle.fx_table.specs.Table.{table_text, lines_of};
@@ -22,12 +20,9 @@ use crate::SaveFault;
 use crate::readying::Out;
 use fx_base::NoMemory;
 use fx_outside::{Host, HostFault, HostText};
-use fx_store::{Filestore, LongText, Name, Node, Path};
+use fx_store::{Filestore, LongText, Node};
 use fx_table::{Descent, Entry, TableText};
 use std::alloc::Global;
-
-/// How much room a path's text is given for each name before it is written.
-const NAME_ROOM: usize = 16;
 
 /// Writes a filestore as a folder: the folder itself, unless an empty one is there, then directories and files in the order
 /// of paths, and last the table, if there is a link or an executable file. A refusal may leave a part of it, in which the file last begun
@@ -115,12 +110,13 @@ fn write_entry<H: Host>(
     folder: &HostText,
     entry: &Entry<'_>,
 ) -> Result<(), HostFault>
-    requires { IfSome (H.view host.old).told (λ tree.
+    requires parent { StandsIn entry.now.parent entry.now.path }
+    requires free { IfSome (H.view host.old).told (λ tree.
         is_free_at tree (folder.now ++ place_of entry.now.path) ≡ true) }
     ensures { PutsIn folder.now entry.now.path (host_entry (Some entry.now.node.now))
         (H.view host.old) (H.view host.new) result }
 {
-    let place = place_below(alloc, folder, &entry.path)?;
+    let place = entry.parent.place_below(alloc, folder, &entry.path)?;
     write_node(alloc, host, &place, entry.node)
 }
 
@@ -214,32 +210,4 @@ pub(crate) fn table_below(alloc: Global, folder: &HostText) -> Result<HostText, 
     let mut text = String::from_str(alloc, folder.as_str())?;
     text.push_str("/.forest-links")?;
     Ok(HostText::from_string(text))
-}
-
-/// The host path of an entry of a folder.
-fn place_below(alloc: Global, folder: &HostText, path: &Path) -> Result<HostText, NoMemory>
-    ensures place { IfOk result (λ place. place ≡ folder.now ++ place_of path.now) }
-    ensures path { OnOk result (IsPath path.now) }
-{
-    let folder = folder.as_str().as_bytes();
-    let room = (path.len() as usize).saturating_mul(NAME_ROOM);
-    let mut bytes = Vec::with_capacity(alloc, folder.len().saturating_add(room))?;
-    bytes.extend_from_slice(folder)?;
-    for name in path.iter() {
-        add_name(&mut bytes, name)?;
-    }
-    match String::from_utf8(bytes) {
-        Ok(text) => Ok(HostText::from_string(text)),
-        Err(_) => unreachable!(),
-    }
-}
-
-/// Adds `/` and a name.
-fn add_name(bytes: &mut Vec<u8>, name: &Name) -> Result<(), NoMemory>
-    ensures added { OnOk result (bytes.new.items ≡ bytes.old.items ++ 47 ∷ name.now) }
-    ensures text { OnOk result (IsUtf8 name.now) }
-{
-    bytes.push(b'/')?;
-    bytes.extend_from_slice(name.as_slice())?;
-    Ok(())
 }

@@ -14,12 +14,11 @@ ghost use Rattle.fx_folder.specs.Reads.{path_below};
 
 use crate::limits::{MAX_BYTES, MAX_NODES};
 use crate::loading::{TABLE, below_folder, path_below, read_file};
-use crate::parent::Parent;
 use fx_base::NoMemory;
 use fx_outside::{Host, HostKind, HostText, Listing};
 use fx_store::limits::MAX_FILE_BYTES;
 use fx_store::{Change, Name, Names, Node, Path, PathFault};
-use fx_table::{FolderCause, LoadFault};
+use fx_table::{FolderCause, LoadFault, Parent};
 use std::alloc::Global;
 
 /// An entry that is still to be walked: its folder, its name and its kind.
@@ -193,7 +192,7 @@ impl Loader {
         if nodes >= MAX_NODES {
             return Err(LoadFault::Refused(FolderCause::TooLarge(below_folder(self.alloc, text)?)));
         }
-        match item.parent.join(self.alloc, &name) {
+        match item.parent.path().join(self.alloc, &name) {
             Ok(path) => {
                 prove!(path.len() <= 64);
                 Ok(path)
@@ -295,7 +294,7 @@ fn add_items(
 fn is_table(parent: &Parent, name: &HostText) -> bool
     ensures { result ≡ in_table (parent.now ++ name.now ∷ []) }
 {
-    if parent.len() > 0 {
+    if parent.path().len() > 0 {
         return false;
     }
     name.as_str() == TABLE

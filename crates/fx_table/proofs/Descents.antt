@@ -1,5 +1,6 @@
 -- A walk over a filestore in the order of paths: what stands at a path and below, and what each step leaves.
 use Rattle.fx_table.proofs.Prelude.{◌≡◌, inl, inr, ℕ, zero, suc, ◌+◌, ◌<◌, Bool, true, false, cond, ◌||◌, T, List, [], ◌∷◌, ◌++◌, length, length-append, drop, is_some, Option, Some, None, IsSome, refl, sym, ◌∙◌, ap, subst, arith, append_assoc, append-nil, Less, is_eq, is_lt, eq_by_cmp, ordering_then, AllByRecursion, filter, list_any, slice_get, IsStrictlySortedBy, entries, entries_sorted, get, get-entries, find, is_sorted, below_all, find-where_key, is_sorted-where_key, same_entries, cases_Bool, or_right, same_Some, all_both, same_front, none_of, some_of, Node, File, Dir, Link, name_cmp, path_cmp, has, Store, Nodes, IsWhole, IsNode, lists, node_at, rest_is, both, first, second, less_test, name_total, parts_total, parts_same, rest_of, eq_by_cmp_equiv, tied_itself, option_and_then, option_or, Level, from_path, from_names, names_in, left_of, IsLevel, IsNextPath, EntersDirectory, TakesPath, IsLeftBelow, Parts, Mapped}
+use Rattle.fx_table.specs.Places.{StandsIn}
 use Rattle.fx_table.proofs.Rests.{longer, not_at}
 
 -- lists of nodes in the order of their paths
@@ -216,25 +217,25 @@ all_stay (e ∷ es) = ap (λ l. e ∷ l) (all_stay es)
 
 -- the steps of the walk
 
-left_push : (nodes : Nodes) (levels : List Level) (level : Level) → left_of nodes (levels ++ level ∷ []) ≡ from_names nodes level.path (drop level.next level.names) ++ left_of nodes levels
-left_push nodes [] level = sym (append-nil (from_names nodes level.path (drop level.next level.names)))
+left_push : (nodes : Nodes) (levels : List Level) (level : Level) → left_of nodes (levels ++ level ∷ []) ≡ from_names nodes level.parent (drop level.next level.names) ++ left_of nodes levels
+left_push nodes [] level = sym (append-nil (from_names nodes level.parent (drop level.next level.names)))
 left_push nodes (l ∷ ls) level =
-    ap (λ x. x ++ from_names nodes l.path (drop l.next l.names)) (left_push nodes ls level)
-    ∙ append_assoc (from_names nodes level.path (drop level.next level.names)) (left_of nodes ls) (from_names nodes l.path (drop l.next l.names))
+    ap (λ x. x ++ from_names nodes l.parent (drop l.next l.names)) (left_push nodes ls level)
+    ∙ append_assoc (from_names nodes level.parent (drop level.next level.names)) (left_of nodes ls) (from_names nodes l.parent (drop l.next l.names))
 
 -- a directory that was gone into
 pub entered_left : (nodes : Nodes) (old new : List Level) (path : Parts) (names : List (List ℕ)) → get nodes path ≡ Some (Dir names) → EntersDirectory old path names new → left_of nodes new ≡ from_names nodes path (names_in (get nodes path)) ++ left_of nodes old
 entered_left nodes old new path [] here is = ap (left_of nodes) is ∙ ap (λ o. from_names nodes path (names_in o) ++ left_of nodes old) (sym here)
 entered_left nodes old new path (name ∷ names) here is =
-    ap (left_of nodes) is ∙ left_push nodes old (record { path = path; names = name ∷ names; next = 0 })
+    ap (left_of nodes) is ∙ left_push nodes old (record { parent = path; names = name ∷ names; next = 0 })
     ∙ ap (λ o. from_names nodes path (names_in o) ++ left_of nodes old) (sym here)
 
 -- the directory above stays, unless it has no name more
-pub stays_left : (nodes : Nodes) (old new : List Level) (level : Level) (next : ℕ) → next ≡ level.next + 1 → new ≡ old ++ record level { next = next } ∷ [] → left_of nodes new ≡ from_names nodes level.path (drop (suc level.next) level.names) ++ left_of nodes old
+pub stays_left : (nodes : Nodes) (old new : List Level) (level : Level) (next : ℕ) → next ≡ level.next + 1 → new ≡ old ++ record level { next = next } ∷ [] → left_of nodes new ≡ from_names nodes level.parent (drop (suc level.next) level.names) ++ left_of nodes old
 stays_left nodes old new level next is pushed =
     let one : next ≡ suc level.next = omega arith in
     ap (left_of nodes) pushed ∙ left_push nodes old (record level { next = next })
-    ∙ ap (λ n. from_names nodes level.path (drop n level.names) ++ left_of nodes old) one
+    ∙ ap (λ n. from_names nodes level.parent (drop n level.names) ++ left_of nodes old) one
 
 drop_next : (names : List (List ℕ)) (i : ℕ) (name : List ℕ) → slice_get names i ≡ Some name → drop i names ≡ name ∷ drop (suc i) names
 drop_next [] i name at = cc
@@ -246,18 +247,18 @@ has_at [] i name at = cc
 has_at (m ∷ ms) zero name at = ap (λ b. b || has ms name) (ap (eq_by_cmp name_cmp name) (same_Some m name at) ∙ ap is_eq (tied_itself name_total name))
 has_at (m ∷ ms) (suc i) name at = or_right (eq_by_cmp name_cmp name m) (has ms name) (has_at ms i name at)
 
-pub stepped : (nodes : Nodes) → IsWhole (get nodes) → (old mid new : List Level) (level : Level) (path : Parts) → IsNextPath level path → IsSome (get nodes path) → left_of nodes mid ≡ from_names nodes level.path (drop (suc level.next) level.names) ++ left_of nodes old → left_of nodes new ≡ from_names nodes path (names_in (get nodes path)) ++ left_of nodes mid → TakesPath nodes (left_of nodes (old ++ level ∷ [])) (left_of nodes new) (Some path)
+pub stepped : (nodes : Nodes) → IsWhole (get nodes) → (old mid new : List Level) (level : Level) (path : Parts) → IsNextPath level path → IsSome (get nodes path) → left_of nodes mid ≡ from_names nodes level.parent (drop (suc level.next) level.names) ++ left_of nodes old → left_of nodes new ≡ from_names nodes path (names_in (get nodes path)) ++ left_of nodes mid → TakesPath nodes (left_of nodes (old ++ level ∷ [])) (left_of nodes new) (Some path)
 stepped nodes whole old mid new level path next there went entered =
     let some = some_of (get nodes path) there in
     let node = some.0 in
     let here : get nodes path ≡ Some node = some.1 in
     let name = next.0 in
-    let rest = from_names nodes level.path (drop (suc level.next) level.names) in
+    let rest = from_names nodes level.parent (drop (suc level.next) level.names) in
     let below = from_names nodes path (names_in (get nodes path)) in
     let block : from_path nodes path ≡ (path, node) ∷ below =
     at_path nodes whole path node here ∙ ap (λ o. (path, node) ∷ from_names nodes path (names_in o)) (sym here) in
-    let named : from_names nodes level.path (drop level.next level.names) ≡ ((path, node) ∷ below) ++ rest =
-    ap (from_names nodes level.path) (drop_next level.names level.next name next.1)
+    let named : from_names nodes level.parent (drop level.next level.names) ≡ ((path, node) ∷ below) ++ rest =
+    ap (from_names nodes level.parent) (drop_next level.names level.next name next.1)
     ∙ ap (λ p. from_path nodes p ++ rest) (sym next.2) ∙ ap (λ l. l ++ rest) block in
     let now : left_of nodes new ≡ below ++ (rest ++ left_of nodes old) = entered ∙ ap (λ l. below ++ l) went in
     (node, here, left_push nodes old level ∙ ap (λ l. l ++ left_of nodes old) named ∙ append_assoc ((path, node) ∷ below) rest (left_of nodes old) ∙ ap (λ l. (path, node) ∷ l) (sym now))
@@ -278,10 +279,13 @@ starts nodes whole levels left =
 -- the path of a directory's next name is mapped, so it is no longer than a path may be
 pub child_there : (nodes : Nodes) → IsWhole (get nodes) → (level : Level) (path : Parts) → IsLevel nodes level → IsNextPath level path → IsSome (get nodes path)
 child_there nodes whole level path is next =
-    ap (λ p. is_some (get nodes p)) next.2 ∙ whole.listed level.path next.0 ∙ ap (λ o. lists o next.0) is.directory ∙ has_at level.names level.next next.0 next.1
+    ap (λ p. is_some (get nodes p)) next.2 ∙ whole.listed level.parent next.0 ∙ ap (λ o. lists o next.0) is.directory ∙ has_at level.names level.next next.0 next.1
 
 pub next_below : (level : Level) (path : Parts) → IsNextPath level path → 0 < length path
-next_below level path next = omega (arith, ap length next.2, length-append level.path (next.0 ∷ []))
+next_below level path next = omega (arith, ap length next.2, length-append level.parent (next.0 ∷ []))
+
+pub next_in : (level : Level) (parent path : Parts) → parent ≡ level.parent → IsNextPath level path → StandsIn parent path
+next_in level parent path is next = (next.0, next.2 ∙ ap (λ p. p ++ next.0 ∷ []) (sym is))
 
 pub gone : (o : Option Node) → o ≡ None → IsSome o → ⊥
 gone None e there = cc

@@ -8,6 +8,7 @@ pub mod Making
 pub mod Mixing
 pub mod Naming
 pub mod Parents
+pub mod PlaceTexts
 mod Prelude
 pub mod Reaching
 pub mod Rests

@@ -1,5 +1,5 @@
 -- Links are set among files and directories, one path after another.
-use Rattle.fx_table.proofs.Prelude.{◌≡◌, ℕ, Bool, true, false, cond, List, [], ◌∷◌, ◌++◌, map, reverse, length, Some, None, refl, sym, ◌∙◌, ap, subst, append_assoc, append-nil, arith, Less, Equal, Greater, is_eq, is_lt, eq_by_cmp, ordering_reverse, AllByRecursion, IsStrictlySortedBy, find, put, by_order, false≢true, map-append, reverse-append, all_front, all_end, all_both, greater_from_less, Link, Change, path_cmp, path_total, Mapped, with_links, link_change, link_in, links_in, mapped_of, node_or_dir, change_of, changes_of, TableLink, Ordering, is_less, pending, MakesLink, MakeLinks, CanMerge, MovesLinks, StopsAt, MovesAll, Parts}
+use Rattle.fx_table.proofs.Prelude.{◌≡◌, Bool, true, false, cond, List, [], ◌∷◌, ◌++◌, map, reverse, length, Some, None, refl, sym, ◌∙◌, ap, subst, append_assoc, append-nil, arith, Less, Equal, Greater, is_eq, is_lt, eq_by_cmp, ordering_reverse, AllByRecursion, IsStrictlySortedBy, find, put, by_order, false≢true, map-append, reverse-append, all_front, all_end, all_both, greater_from_less, Link, Change, path_cmp, path_total, Mapped, with_links, link_change, link_in, links_in, mapped_of, node_or_dir, change_of, changes_of, TableLink, Ordering, is_less, pending, MakesLink, MakeLinks, CanMerge, MovesLinks, StopsAt, MovesAll, Parts}
 
 abbrev AllAbove : Parts → List TableLink → Type 0
 AllAbove p ls = AllByRecursion (λ (l : TableLink). path_cmp p l.path ≡ Less) ls

@@ -1,5 +1,5 @@
 -- Places below a folder, and what its table file is called.
-use Rattle.std.specs.Prelude.{ℕ, cond, List, [], ◌∷◌, codes, Option, Some, None}
+use Rattle.std.specs.Prelude.{◌≡◌, ℕ, cond, List, [], ◌∷◌, ◌++◌, codes, Option, Some, None}
 use Rattle.std.specs.Ordering.{eq_by_cmp}
 use Rattle.std.specs.List.{flat_map}
 use Rattle.fx_outside.specs.Listing.{name_cmp}
@@ -18,3 +18,7 @@ abbrev pub rest_of : Parts → Parts → Option Parts
 rest_of [] q = Some q
 rest_of (a ∷ at) [] = None
 rest_of (a ∷ at) (b ∷ q) = cond (eq_by_cmp name_cmp a b) (rest_of at q) None
+
+-- a path has one name more than that of its directory
+abbrev pub StandsIn : Parts → Parts → Type 0
+StandsIn parent path = (name : List ℕ) × (path ≡ parent ++ name ∷ [])

@@ -7,7 +7,7 @@ use Rattle.fx_store.specs.declared.node.Node.TheVariants.{File, Dir, Link}
 use Rattle.fx_store.specs.Whole.{Nodes}
 use Rattle.fx_table.specs.declared.descent.Entry.{Entry}
 use Rattle.fx_table.specs.declared.descent.Level.{Level}
-use Rattle.fx_table.specs.Places.{rest_of}
+use Rattle.fx_table.specs.Places.{rest_of, StandsIn}
 
 -- what stands at a path and below
 abbrev pub from_path : Nodes → List (List ℕ) → List (List (List ℕ) × Node)
@@ -27,11 +27,11 @@ names_in (Some (Link text)) = []
 -- what is left below directories that were entered, of which the last comes first
 abbrev pub left_of : Nodes → List Level → List (List (List ℕ) × Node)
 left_of nodes [] = []
-left_of nodes (level ∷ levels) = left_of nodes levels ++ from_names nodes level.path (drop level.next level.names)
+left_of nodes (level ∷ levels) = left_of nodes levels ++ from_names nodes level.parent (drop level.next level.names)
 
 -- a directory of the filestore, of whose names one comes next
 pub record IsLevel (nodes : Nodes) (level : Level) : Type 0 where
-  pub directory : get nodes level.path ≡ Some (Dir level.names)
+  pub directory : get nodes level.parent ≡ Some (Dir level.names)
   pub more : level.next < length level.names
 
 abbrev pub AreLevels : Nodes → List Level → Type 0
@@ -39,12 +39,12 @@ AreLevels nodes levels = AllByRecursion (IsLevel nodes) levels
 
 -- the path of the directory's next name
 abbrev pub IsNextPath : Level → List (List ℕ) → Type 0
-IsNextPath level path = (name : List ℕ) × (slice_get level.names level.next ≡ Some name) × (path ≡ level.path ++ name ∷ [])
+IsNextPath level path = (name : List ℕ) × (slice_get level.names level.next ≡ Some name) × (path ≡ level.parent ++ name ∷ [])
 
 -- a directory is gone into from its first name on, if it lists one
 abbrev pub EntersDirectory : List Level → List (List ℕ) → List (List ℕ) → List Level → Type 0
 EntersDirectory old path [] new = new ≡ old
-EntersDirectory old path (name ∷ names) new = new ≡ old ++ record { path = path; names = name ∷ names; next = 0 } ∷ []
+EntersDirectory old path (name ∷ names) new = new ≡ old ++ record { parent = path; names = name ∷ names; next = 0 } ∷ []
 
 -- the path is the first of those that were left, and the others are left
 abbrev pub TakesPath : Nodes → List (List (List ℕ) × Node) → List (List (List ℕ) × Node) → Option (List (List ℕ)) → Type 0
@@ -56,6 +56,7 @@ pub record TakesEntry (nodes : Nodes) (old new : List (List (List ℕ) × Node))
   pub some : 0 < length e.path
   pub node : get nodes e.path ≡ Some e.node.now
   pub next : TakesPath nodes old new (Some e.path)
+  pub parent : StandsIn e.parent e.path
 
 abbrev pub TakesNext : Nodes → List (List (List ℕ) × Node) → List (List (List ℕ) × Node) → Option Entry → Type 0
 TakesNext nodes old new None = TakesPath nodes old new None

@@ -12,6 +12,7 @@ mod linked;
 mod links;
 mod listing;
 mod merging;
+mod parent;
 mod spelling;
 mod table;
 
@@ -23,3 +24,4 @@ pub use linked::read_table;
 pub use links::{TableText, write_table};
 pub use listing::list_names;
 pub use merging::merged;
+pub use parent::Parent;

@@ -11,8 +11,13 @@ writing-init g c = (
 pub returns-in_err-entry-clause-partly : goal.returns-in_err-entry-clause-partly
 returns-in_err-entry-clause-partly g c = OnErr-from _ _ (stops_before (g.H.Host.view c.args.host.now) (g.H.Host.view c.writing.host) c.args.folder.now c.args.store.now.nodes _ (c.writing.invariant).0)
 
-pub write_entry-requires : goal.write_entry-requires
-write_entry-requires g c =
+pub write_entry-requires-clause-parent : goal.write_entry-requires-clause-parent
+write_entry-requires-clause-parent g c =
+    let entry = rw c.in-Some.is at c.in_ok-entry.ensures.next in
+    entry.parent
+
+pub write_entry-requires-clause-free : goal.write_entry-requires-clause-free
+write_entry-requires-clause-free g c =
     let entry = rw c.in-Some.is at c.in_ok-entry.ensures.next in
     is_free (g.H.Host.view c.args.host.now) (g.H.Host.view c.writing.host) c.args.folder.now c.args.store.now.nodes _ _ c.in-Some.entry.path c.requires.whole c.requires.«open» (c.writing.invariant).0 entry.next
 
