@@ -1,5 +1,5 @@
 -- Names and places as texts.
-use Rattle.fx_table.proofs.Prelude.{◌≡◌, ℕ, ◌<◌, ◌-◌, List, [], ◌∷◌, ◌++◌, length, Some, sym, ◌∙◌, ap, arith, append_assoc, append-nil, length-append, at_middle, second_true, same_Some, slice_get, Parts, IsName, is_name}
+use Rattle.fx_table.proofs.Prelude.{◌≡◌, ℕ, ◌-◌, List, [], ◌∷◌, ◌++◌, length, Some, sym, ◌∙◌, ap, arith, append_assoc, append-nil, length-append, at_middle, second_true, same_Some, slice_get, Parts, IsName, is_name}
 use Rattle.std.specs.Str.{IsUtf8, is_utf8}
 use Rattle.std.proofs.lemmas.Str.{IsUtf8-from_is_utf8}
 use Rattle.fx_table.specs.Places.{place_of, StandsIn}
@@ -7,9 +7,6 @@ use Rattle.fx_table.specs.Places.{place_of, StandsIn}
 pub name_is_text : (name : List ℕ) → IsName name → IsUtf8 name
 unfolding is_name
 name_is_text name is = IsUtf8-from_is_utf8 name (second_true _ (is_utf8 name) is)
-
-pub some_names : (parent path : Parts) → StandsIn parent path → 0 < length path
-some_names parent path at = omega (arith, ap length at.1, length-append parent (at.0 ∷ []))
 
 -- the last name of an entry's path
 pub last_is : (parent path : Parts) (name : List ℕ) → StandsIn parent path → Some name ≡ slice_get path (length path - 1) → path ≡ parent ++ name ∷ []
