@@ -1,5 +1,5 @@
 //! A walk over a filestore in the order of paths, from directory to directory over what each lists.
-ghost use Rattle.std.specs.Prelude.{◌≡◌, ◌<◌, ◌++◌, suc, Some, ◌∷◌, [], length, drop, IfOk, OnOk, IsSome, MatchOption, option_copied};
+ghost use Rattle.std.specs.Prelude.{◌≡◌, ◌<◌, ◌++◌, suc, Some, ◌∷◌, [], length, drop, IfOk, OnOk, MatchOption, option_copied};
 ghost use Rattle.std.specs.FinMap.{get};
 ghost use Rattle.fx_store.specs.Whole.{Nodes, IsWhole};
 ghost use Rattle.fx_table.specs.Places.{StandsIn};

@@ -97,7 +97,7 @@ impl Parent {
         Ok(HostText::from_string(text))
     }
 
-    /// The host path of an entry of the directory, whose filestore is to be this folder.
+    /// The host path of an entry of the directory, if the filestore stands as this folder.
     pub fn place_below(
         &self,
         alloc: Global,
