@@ -11,6 +11,7 @@ seconds would, in thousands of millions. What is measured inside this script has
 
 from __future__ import annotations
 
+import contextlib
 import math
 import os
 import re
@@ -26,6 +27,8 @@ from enum import Enum
 from goals import Goals
 
 KIB_OF_MIB = 1024
+# What is written into `clear_refs` of a process, as proc(5) has it.
+FORGET_PEAK = "5"
 INSTRUCTIONS = 1e9
 COUNTED = re.compile(rb"I +refs: +([0-9,]+)")
 NO_NUMBER = math.nan
@@ -98,6 +101,15 @@ Maker = Callable[[str], "list[str]"]
 """The words of a command that writes to this folder."""
 
 
+def forget_peak() -> None:
+    """Forgets what memory this script held at most.
+
+    The system counts it for each command that the script starts from then on.
+    """
+    with contextlib.suppress(OSError), open("/proc/self/clear_refs", "w") as it:
+        it.write(FORGET_PEAK)
+
+
 def run(words: list[str], scratch: str, folder: str | None = None) -> Run:
     """Runs the words, in this folder or where this script runs.
 
@@ -108,6 +120,7 @@ def run(words: list[str], scratch: str, folder: str | None = None) -> Run:
     )
     if Counting.is_on:
         words = [*valgrind(counted), *words]
+    forget_peak()
     with open(out_path, "wb") as out, open(err_path, "wb") as err:
         begin = time.monotonic()
         child = subprocess.Popen(

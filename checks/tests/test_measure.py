@@ -85,6 +85,14 @@ class Runs(unittest.TestCase):
         self.assertEqual((ran.status, ran.out, ran.err), (3, b"1\n", b"2\n"))
         self.assertEqual(measure.By.ALL.seconds(ran), ran.user + ran.system)
 
+    def test_what_the_script_held_before_counts_for_no_run(self) -> None:
+        with tempfile.TemporaryDirectory() as scratch:
+            before = measure.run(["true"], scratch).peak_kib
+            held = b"x" * (256 * measure.KIB_OF_MIB**2)
+            del held
+            after = measure.run(["true"], scratch).peak_kib
+        self.assertLess(after, before + 32 * measure.KIB_OF_MIB)
+
     def test_a_run_works_in_the_folder_that_is_given(self) -> None:
         with tempfile.TemporaryDirectory() as scratch, tempfile.TemporaryDirectory() as folder:
             ran = measure.done(["pwd", "-P"], scratch, folder)
