@@ -1,19 +1,20 @@
 """The engine on described trees.
 
-`trace` of many transactions over 16 projects, each with a counter and a log: counts on each of
-them, and counts on two of them alone, where conflicts are frequent. And one transaction that goes
-through many files by `each`: reading, by `next` or by `to`, or storing.
+`trace` of many transactions over 16 projects, each with a counter and a log: on projects that are
+drawn, and with all counts on two of them, where conflicts are frequent. And one transaction that
+goes through many files by `each`: reading, by `next` or by `to`, or storing.
 """
 
 from __future__ import annotations
 
 import os
 import tempfile
-from collections.abc import Callable, Iterator
+from collections.abc import Iterator
 
 import measure
 import sqlite_peer
 from goals import Goals, growth, of_peer, seconds
+from large import NUMBER, draws
 from looks import THROUGH, looking
 from threads import RETRIES, set_of
 from trace import traced, write_scripts
@@ -32,6 +33,8 @@ DESCRIPTION = '{(p :: <n : ("count" :: file), ("log" :: dir)>) | p in %s}\n'
 COUNT = 'txn{to("%s")down into down fetch n:str store(text((int(n)+1)))}'
 STORE = 'txn{to("%s")down into down store("1")}'
 COUNTS_IN = 8
+# The project of a transaction, and whether it counts.
+Step = tuple[int, bool]
 TO = "txn { into next fetch all : names each n in (all) { to(n) down fetch x : str up out } }\n"
 CHANGED = (
     "txn { into next fetch all : names into"
@@ -44,40 +47,34 @@ EACH: list[tuple[str, str, Goals]] = [
 ]
 
 
-def project_of(i: int) -> int:
-    """The project of a transaction."""
-    return i * 5 % len(PROJECTS)
+def drawn(count: int) -> list[Step]:
+    """So many transactions on projects that are drawn, of which about one in eight counts."""
+    numbers = draws(NUMBER)
+    return [(next(numbers) % len(PROJECTS), next(numbers) % COUNTS_IN == 0) for _ in range(count)]
 
 
-def counts_on_each(i: int) -> bool:
-    """Whether a transaction counts: one of eight of each project does."""
-    return i // len(PROJECTS) % COUNTS_IN == 0
-
-
-def counts_on_two(i: int) -> bool:
-    """Whether a transaction counts: one of eight does, all of them on two of the projects."""
-    return i % COUNTS_IN == 0
+def crowded(count: int) -> list[Step]:
+    """So many transactions, of which one in eight counts, all of these on two of the projects."""
+    return [(i * 5 % len(PROJECTS), i % COUNTS_IN == 0) for i in range(count)]
 
 
 def projects(count: int) -> Iterator[measure.Line]:
-    """Traces of `count` transactions: one that counts on each project, and one on two alone.
+    """Traces of `count` transactions: one that counts where it is drawn, and one on two projects.
 
     A transaction that meets a conflict is run again. So the last line is of the runs of the second
     trace, beside SQLite with as many transactions.
     """
-    ran, peer, _ = traced_beside(count, counts_on_each)
+    ran, peer, _ = traced_beside(drawn(count))
     yield line("trace: transactions on 16 projects", count, ran, peer, TRACED.get(count, ()))
-    ran, peer, again = traced_beside(count, counts_on_two)
+    ran, peer, again = traced_beside(crowded(count))
     kind = "trace: transactions, counts on 2 of them"
     yield line(kind, count, ran, peer, CROWDED.get(count, ()))
     runs = count + retries_of(ran)
     yield line("trace: runs of these transactions", runs, ran, again, RUNS.get(count, ()))
 
 
-def traced_beside(
-    count: int, is_count: Callable[[int], bool]
-) -> tuple[measure.Run, float, float]:
-    """The fastest of some traces of so many transactions, which count or else store.
+def traced_beside(mix: list[Step]) -> tuple[measure.Run, float, float]:
+    """The fastest of some traces of these transactions, which count or else store.
 
     Seconds of SQLite stand beside it: with as many transactions, and with as many as were run. One
     of eight counts, so that 100,000 fit into 64 scripts.
@@ -88,11 +85,10 @@ def traced_beside(
             os.makedirs(os.path.join(folder, name, "log"))
             measure.write(os.path.join(folder, name), "count", "0")
         spec = measure.write(scratch, "spec", DESCRIPTION % set_of(PROJECTS))
-        texts = [
-            (COUNT if is_count(i) else STORE) % PROJECTS[project_of(i)] for i in range(count)
-        ]
+        texts = [(COUNT if is_count else STORE) % PROJECTS[project] for project, is_count in mix]
         scripts = write_scripts(scratch, texts)
-        steps: list[sqlite_peer.Step] = [(project_of(i), None) for i in range(count)]
+        steps: list[sqlite_peer.Step] = [(project, None) for project, _ in mix]
+        count = len(mix)
         runs, peers, as_often = [], [], []
         for _ in range(REPEATS):
             ran = traced(scratch, spec, folder, scripts, count)
