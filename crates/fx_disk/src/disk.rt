@@ -5,106 +5,62 @@ ghost use Rattle.fx_base.specs.Causes.{Rose};
 ghost use Rattle.fx_outside.specs.Path.{is_fit};
 ghost use Rattle.fx_disk.specs.Silent.{silent, Counts};
 
+use crate::ahead::{Ahead, Held};
+use crate::entries::{Entry, MOST_ENTRIES, entries_of, kind_of, names_in};
 use crate::reading::{Reading, read_on};
 use fx_base::NoMemory;
-use fx_outside::{Host, HostFault, HostKind, HostText, Listing, Standing};
+use fx_outside::{Host, HostFault, HostText, Listing, Standing};
 use std::alloc::Global;
-use std::fs::{self, DirEntry, File, FileType, ReadDir};
+use std::fs::{self, File};
 use std::io::{self, ErrorKind, Write};
 use std::rt::Files;
-
-/// A folder of more entries is not listed.
-pub const MOST_ENTRIES: usize = 1_000_000;
+use std::thread::Threads;
 
 /// The machine's files. It tells nothing of what it holds, and counts each error of the system: a name that is not UTF-8
 /// and a folder of more than [`MOST_ENTRIES`] entries too. It keeps the path of the last one. Its fences let fit paths
 /// through, and it counts the calls at others. A file that is read on stays open, so that a pipe is read too.
+///
+/// The entries of a listed folder are looked at by several threads, which read small files too. What a file held then is
+/// what is read of it. What nobody has asked for is forgotten with the next call that writes.
 #[derive(Drop)]
-pub struct Disk<R: Files + AllocGlobal + Clone + Drop> {
+pub struct Disk<R: Files, T> {
     rt: R,
+    machine: HostRuntime,
+    threads: T,
     faults: u64,
     last_fault: Option<HostText>,
     strays: u64,
+    ahead: Ahead,
     reading: Option<Reading<R::File>>,
 }
 
-fn kind_of(kind: FileType) -> HostKind {
-    if kind.is_file() {
-        HostKind::File
-    } else if kind.is_dir() {
-        HostKind::Folder
-    } else {
-        HostKind::Other
-    }
-}
-
-/// The entry's name and kind.
-fn named<R: Files + AllocGlobal + Clone + Drop>(
-    alloc: Global,
-    entry: &DirEntry<R>,
-) -> io::Result<(HostText, HostKind)> {
-    let kind = kind_of(entry.file_type()?);
-    let name = String::from_str(alloc, entry.file_name())?;
-    Ok((HostText::from_string(name), kind))
-}
-
-/// Adds an entry, unless there are [`MOST_ENTRIES`].
-fn add_entry<R: Files + AllocGlobal + Clone + Drop>(
-    alloc: Global,
-    entry: &DirEntry<R>,
-    found: &mut Vec<(HostText, HostKind)>,
-) -> io::Result<()>
-    requires { vec_len found.old ≤ MOST_ENTRIES }
-    ensures { OnOk result (vec_len found.new ≤ MOST_ENTRIES) }
-{
-    if found.len() == MOST_ENTRIES {
-        return Err(io::Error::from(ErrorKind::FileTooLarge));
-    }
-    found.push(named(alloc, entry)?)?;
-    Ok(())
-}
-
-/// Adds what a folder holds, in no order.
-fn add_entries<R: Files + AllocGlobal + Clone + Drop>(
-    alloc: Global,
-    folder: &mut ReadDir<R>,
-    found: &mut Vec<(HostText, HostKind)>,
-) -> io::Result<()>
-    requires { vec_len found.old ≤ MOST_ENTRIES }
-    ensures { OnOk result (vec_len found.new ≤ MOST_ENTRIES) }
-{
-    for entry in folder {
-        add_entry(alloc, &entry?, found)?;
+fn add_held(files: &mut Vec<Held>, held: Option<Held>) -> Result<(), NoMemory> {
+    if let Some(held) = held {
+        files.push(held)?;
     }
     Ok(())
 }
 
-/// What a folder holds, in no order.
-fn entries<R: Files + AllocGlobal + Clone + Drop>(
-    rt: &R,
+/// The names and kinds of entries that stand in order of name; none where a name stands twice. What was read of them is
+/// held.
+fn listed(
     alloc: Global,
-    path: &str,
-) -> io::Result<Vec<(HostText, HostKind)>>
-    ensures { IfOk result (λ found. vec_len found ≤ MOST_ENTRIES) }
+    ahead: &mut Ahead,
+    entries: Vec<Entry>,
+) -> Result<Option<Listing>, NoMemory>
+    ensures { IfOk result (λ listing. IfSome listing (λ names. len names ≤ vec_len entries)) }
 {
-    let mut folder = fs::read_dir(rt, path)?;
-    let mut found = Vec::new(alloc);
-    add_entries(alloc, &mut folder, &mut found)?;
-    Ok(found)
-}
-
-/// The entries in order of name; none where a name stands twice.
-fn sorted(alloc: Global, mut found: Vec<(HostText, HostKind)>) -> Result<Option<Listing>, NoMemory>
-    ensures { IfOk result (λ listing. IfSome listing (λ names. len names ≤ vec_len found)) }
-{
-    found.sort_unstable_by(|a, b| a.0.as_str().cmp(b.0.as_str()));
     let mut listing = Listing::new(alloc);
-    for (name, kind) in found {
+    let mut files = Vec::new(alloc);
+    for entry in entries {
+        let Entry { name, kind, held } = entry;
         if !listing.can_add(&name) {
             return Ok(None);
         }
         listing.add(alloc, name, kind)?;
+        add_held(&mut files, held)?;
     }
+    ahead.add_all(files)?;
     Ok(Some(listing))
 }
 
@@ -113,18 +69,23 @@ fn write_file<R: Files>(rt: &R, path: &str, bytes: &[u8]) -> io::Result<()> {
     file.write_all(bytes)
 }
 
-impl<R: Files + AllocGlobal + Clone + Drop> Disk<R> {
-    /// The files that `rt` reaches, with no error and no stray call counted yet.
-    pub fn new(rt: R) -> Disk<R>
+impl<R: Files + AllocGlobal, T> Disk<R, T> {
+    /// The files that `rt` reaches, with no error and no stray call counted yet. What stands in a listed folder is looked
+    /// at through `machine`, by `threads`.
+    pub fn new(rt: R, machine: HostRuntime, threads: T) -> Disk<R, T>
         ensures faults { result.faults ≡ 0 }
         ensures last { result.last_fault ≡ None }
         ensures strays { result.strays ≡ 0 }
     {
+        let ahead = Ahead::new(rt.alloc());
         Disk {
             rt,
+            machine,
+            threads,
             faults: 0,
             last_fault: None,
             strays: 0,
+            ahead,
             reading: None,
         }
     }
@@ -177,7 +138,18 @@ impl<R: Files + AllocGlobal + Clone + Drop> Disk<R> {
     }
 }
 
-impl<R: Files + AllocGlobal + Clone + Drop> Host for Disk<R> {
+impl<R: Files + AllocGlobal + Clone + Drop, T: Threads> Disk<R, T> {
+    /// The entries of a folder, in order of name.
+    fn entries_in(&self, alloc: Global, folder: &str) -> io::Result<Vec<Entry>>
+        ensures { IfOk result (λ entries. vec_len entries ≤ MOST_ENTRIES) }
+    {
+        let names = names_in(&self.rt, alloc, folder)?;
+        let room = self.ahead.room();
+        entries_of(&self.machine, &self.threads, alloc, folder, room, names)
+    }
+}
+
+impl<R: Files + AllocGlobal + Clone + Drop, T: Threads> Host for Disk<R, T> {
     ghost use Rattle.std.specs.Prelude.{◌≤◌, IfOk};
     ghost use Rattle.std.specs.FinMap.{len};
     ghost use Rattle.fx_outside.specs.Tree.{is_folder_at};
@@ -209,11 +181,11 @@ impl<R: Files + AllocGlobal + Clone + Drop> Host for Disk<R> {
             (silent self.new.faults self.new.last_fault self.new.strays) }
     {
         self.count_stray(path);
-        let found = match entries(&self.rt, alloc, path.as_str()) {
-            Ok(found) => found,
+        let entries = match self.entries_in(alloc, path.as_str()) {
+            Ok(entries) => entries,
             Err(error) => return Err(self.fault(alloc, path, error)),
         };
-        match sorted(alloc, found) {
+        match listed(alloc, &mut self.ahead, entries) {
             Ok(Some(listing)) => Ok(listing),
             Ok(None) => Err(self.failed(alloc, path)),
             Err(NoMemory) => Err(HostFault::NoMemory),
@@ -228,7 +200,15 @@ impl<R: Files + AllocGlobal + Clone + Drop> Host for Disk<R> {
         buf: &mut [u8],
     ) -> Result<usize, HostFault> {
         self.count_stray(path);
-        match read_on(&self.rt, alloc, &mut self.reading, path, from, buf) {
+        match read_on(
+            &self.rt,
+            alloc,
+            &mut self.ahead,
+            &mut self.reading,
+            path,
+            from,
+            buf,
+        ) {
             Ok(count) => Ok(count),
             Err(error) => Err(self.fault(alloc, path, error)),
         }
@@ -236,6 +216,7 @@ impl<R: Files + AllocGlobal + Clone + Drop> Host for Disk<R> {
 
     fn make_dir(&mut self, alloc: Global, path: &HostText) -> Result<(), HostFault> {
         self.count_stray(path);
+        self.ahead.clear();
         match fs::create_dir(&self.rt, path.as_str()) {
             Ok(()) => Ok(()),
             Err(error) => Err(self.fault(alloc, path, error)),
@@ -244,6 +225,7 @@ impl<R: Files + AllocGlobal + Clone + Drop> Host for Disk<R> {
 
     fn write_new(&mut self, alloc: Global, path: &HostText, bytes: &[u8]) -> Result<(), HostFault> {
         self.count_stray(path);
+        self.ahead.clear();
         match write_file(&self.rt, path.as_str(), bytes) {
             Ok(()) => Ok(()),
             Err(error) => Err(self.fault(alloc, path, error)),

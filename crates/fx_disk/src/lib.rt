@@ -2,11 +2,14 @@
 //! tell nothing of what they hold.
 #![tactic(auto)]
 
+mod ahead;
 mod disk;
+mod entries;
 mod output;
 mod reading;
 mod real_disk;
 
-pub use disk::{Disk, MOST_ENTRIES};
+pub use disk::Disk;
+pub use entries::MOST_ENTRIES;
 pub use output::Output;
 pub use real_disk::RealDisk;

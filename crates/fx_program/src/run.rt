@@ -43,12 +43,12 @@ fn words_of(alloc: Global, args: Args) -> Result<Words, NoMemory> {
 }
 
 /// Runs the words over the machine's files, the file of a journal and the standard output.
-fn run_over<R>(rt: &R, words: &Words, files: R, file: R) -> Status
+fn run_over<R>(rt: &R, machine: HostRuntime, words: &Words, files: R, file: R) -> Status
 where
     R: Files + Print + AllocGlobal + Clone + Drop + Threads + Wait + Sync,
     ensures { IsEndOf words.now result }
 {
-    let mut host = Disk::new(files);
+    let mut host = Disk::new(files, machine, rt);
     let mut out = Output::new(rt);
     let mut disk = RealDisk::new(file);
     top(
@@ -62,7 +62,7 @@ where
     )
 }
 
-fn run<R>(rt: &R, words: &Words) -> Status
+fn run<R>(rt: &R, machine: &HostRuntime, words: &Words) -> Status
 where
     R: Files + Print + AllocGlobal + Clone + Drop + Threads + Wait + Sync,
     ensures { IsEndOf words.now result }
@@ -70,8 +70,11 @@ where
     let Ok(files) = rt.clone() else {
         return Status::NoMemory;
     };
+    let Ok(machine) = machine.clone() else {
+        return Status::NoMemory;
+    };
     match rt.clone() {
-        Ok(file) => run_over(rt, words, files, file),
+        Ok(file) => run_over(rt, machine, words, files, file),
         Err(_) => Status::NoMemory,
     }
 }
@@ -85,7 +88,12 @@ impl<'a> Promise<Status> for EndOf<'a> {
 }
 
 /// Runs the words in a thread of the stated stack; where none can be had, in this one.
-fn run_apart<'s, E, R>(rt: &'s R, scope: &Scope<'s, E>, words: &'s Words) -> Status
+fn run_apart<'s, E, R>(
+    rt: &'s R,
+    machine: &'s HostRuntime,
+    scope: &Scope<'s, E>,
+    words: &'s Words,
+) -> Status
 where
     R: Files + Print + AllocGlobal + Clone + Drop + Threads + Wait + Sync,
     R::File: Send,
@@ -93,14 +101,14 @@ where
     ensures { IsEndOf words.now result }
 {
     let stack = Stack::new().stack_size(STACK_BYTES);
-    match stack.spawn_scoped_with(scope, EndOf(words), || run(rt, words)) {
+    match stack.spawn_scoped_with(scope, EndOf(words), || run(rt, machine, words)) {
         Ok(running) => running.join(rt),
         Err(refused) => (refused.value)(),
     }
 }
 
 /// Runs the words on a stack that the shell's limit does not make smaller.
-fn run_on_stack<R>(rt: &R, words: &Words) -> Status
+fn run_on_stack<R>(rt: &R, machine: &HostRuntime, words: &Words) -> Status
 where
     R: Files + Print + AllocGlobal + Clone + Drop + Threads + Wait + Sync,
     R::File: Send,
@@ -112,7 +120,7 @@ where
         rt,
         |scope| -> Status
             ensures { IsEndOf words.entry.now result }
-        { run_apart(rt, scope, words) },
+        { run_apart(rt, machine, scope, words) },
     )
 }
 
@@ -126,13 +134,13 @@ fn code_of<R: Eprint>(rt: &R, words: &Words, status: &Status) -> ExitCode
     ExitCode::from(status.code())
 }
 
-fn run_to_end<R>(rt: &R, words: Words) -> Ended
+fn run_to_end<R>(rt: &R, machine: &HostRuntime, words: Words) -> Ended
 where
     R: Files + Print + Eprint + AllocGlobal + Clone + Drop + Threads + Wait + Sync,
     R::File: Send,
     R::Dir: Send,
 {
-    let status = run_on_stack(rt, &words);
+    let status = run_on_stack(rt, machine, &words);
     let code = code_of(rt, &words, &status);
     Ended { words, code }
 }
@@ -194,31 +202,32 @@ where
 }
 
 /// Reads the words, runs them and says the end.
-fn run_words<R>(rt: &R) -> Ended
+fn run_words<R>(rt: &R, machine: &HostRuntime) -> Ended
 where
     R: Env + Files + Print + Eprint + AllocGlobal + Clone + Drop + Threads + Wait + Sync,
     R::File: Send,
     R::Dir: Send,
 {
     match read_words(rt) {
-        Ok(words) => run_to_end(rt, words),
+        Ok(words) => run_to_end(rt, machine, words),
         Err(error) => end_unread(rt, error),
     }
 }
 
-/// Runs the words of the command line and says the end: its code, and its line where the run is not done.
+/// Runs the words of the command line and says the end: its code, and its line where the run is not done. What stands in a
+/// folder is looked at through `machine`, by several threads: these can be sent a runtime that is known alone.
 ///
 /// Each closed standard stream is held first. The system gives the least free number to the file that is opened next: a file
 /// of the run, as that of a journal, would take the number of a closed output, and what is printed would be written into it.
 /// What holds a stream can't be written, so a write to it fails.
-pub fn program<R>(rt: &R) -> Ended
+pub fn program<R>(rt: &R, machine: &HostRuntime) -> Ended
 where
     R: Env + Files + Print + Eprint + AllocGlobal + Clone + Drop + Threads + Wait + Sync,
     R::File: AsRawFd + Send,
     R::Dir: Send,
 {
     let held = (hold_stream(rt), hold_stream(rt), hold_stream(rt));
-    let ended = run_words(rt);
+    let ended = run_words(rt, machine);
     drop(held);
     ended
 }

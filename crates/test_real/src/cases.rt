@@ -156,7 +156,7 @@ fn answer<T: Clone + Threads + Wait + Sync>(
         None => tell(out, "no such word"),
         Some(Verb::Note) => Ok(()),
         Some(Verb::Set(setting)) => set_up(rt, setting, rest, before, out),
-        Some(Verb::Call(call)) => tell_call(rt, call, rest, out),
+        Some(Verb::Call(call)) => tell_call(rt, threads, call, rest, out),
         Some(Verb::Run) => run(rt, threads, rest, before, out),
         Some(Verb::Tree) => tell_tree(rt, rest, out),
     }

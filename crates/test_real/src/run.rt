@@ -31,7 +31,7 @@ fn clear(rt: &HostRuntime) -> io::Result<()> {
 
 /// The number of the program's code.
 fn code_of<T: Clone + Threads + Wait + Sync>(stage: &Stage<T>) -> u8 {
-    number_of(program(stage).report(stage))
+    number_of(program(stage, stage.rt).report(stage))
 }
 
 fn tell_lines(said: &str, out: &mut String) -> Result<(), NoMemory> {

@@ -3,9 +3,10 @@
 use fx_disk::Disk;
 use fx_outside::{Host, HostText};
 use std::alloc::{Allocator, Global};
-use std::fs::{File, Metadata, OpenFile, OpenOptions};
+use std::fs::{self, File, Metadata, OpenFile, OpenOptions};
 use std::io::{self, Cursor, ErrorKind, Read, Seek, SeekFrom, Write};
 use std::rt::Files;
+use std::thread::Threads;
 
 fn host_text(alloc: Global, text: &str) -> io::Result<HostText> {
     Ok(HostText::from_string(String::from_str(alloc, text)?))
@@ -136,65 +137,79 @@ impl Files for Strange {
     }
 }
 
-/// Tells what a new empty file at a path gives.
-fn tell_new(
+/// The host of these files, where each folder tells these names.
+fn strange<'a, T: Threads>(
+    rt: &HostRuntime,
+    threads: &'a T,
+    names: [u8; 4],
+) -> io::Result<Disk<Strange, &'a T>> {
+    let files = Strange {
+        rt: rt.clone()?,
+        names,
+    };
+    Ok(Disk::new(files, rt.clone()?, threads))
+}
+
+/// Tells what a new file of these bytes gives at a path.
+fn tell_new<H: Host>(
     alloc: Global,
-    disk: &mut Disk<HostRuntime>,
+    disk: &mut H,
     path: &str,
+    bytes: &[u8],
     out: &mut String,
 ) -> io::Result<()> {
     let path = host_text(alloc, path)?;
-    let done = disk.write_new(alloc, &path, b"");
+    let done = disk.write_new(alloc, &path, bytes);
     writeln!(out, "write-new {}: {done:?}", path.as_str())?;
     Ok(())
 }
 
 /// Makes the folder `g` of two files.
-fn tell_making(rt: &HostRuntime, folder: &HostText, out: &mut String) -> io::Result<()> {
-    let alloc = rt.alloc();
-    let mut disk = Disk::new(rt.clone()?);
+fn tell_making<H: Host>(alloc: Global, disk: &mut H, folder: &HostText, out: &mut String) -> io::Result<()> {
     let done = disk.make_dir(alloc, folder);
     writeln!(out, "make-dir {}: {done:?}", folder.as_str())?;
-    tell_new(alloc, &mut disk, "g/a", out)?;
-    tell_new(alloc, &mut disk, "g/b", out)
+    tell_new(alloc, disk, "g/a", b"", out)?;
+    tell_new(alloc, disk, "g/b", b"hello", out)
 }
 
 /// Tells how a folder is not listed where it tells these names.
-fn tell_list(
+fn tell_list<T: Threads>(
     rt: &HostRuntime,
+    threads: &T,
     folder: &HostText,
     names: [u8; 4],
     out: &mut String,
 ) -> io::Result<()> {
-    let mut strange = Disk::new(Strange {
-        rt: rt.clone()?,
-        names,
-    });
-    let fault = strange.list(rt.alloc(), folder).err();
-    let faults = strange.faults();
+    let mut disk = strange(rt, threads, names)?;
+    let fault = disk.list(rt.alloc(), folder).err();
+    let faults = disk.faults();
     writeln!(out, "list {names:?}: fault {fault:?}, faults {faults}")?;
     Ok(())
 }
 
 /// Tells the listings of a folder where each name stands once, where one is not UTF-8, and where one stands twice.
-pub fn tell_lists(rt: &HostRuntime, out: &mut String) -> io::Result<()> {
+pub fn tell_lists<T: Threads>(
+    rt: &HostRuntime,
+    threads: &T,
+    out: &mut String,
+) -> io::Result<()> {
     let folder = host_text(rt.alloc(), "g")?;
-    tell_making(rt, &folder, out)?;
-    tell_list(rt, &folder, *b"a\0b\0", out)?;
-    tell_list(rt, &folder, *b"a\0\xff\0", out)?;
-    tell_list(rt, &folder, *b"a\0a\0", out)
+    tell_making(rt.alloc(), &mut strange(rt, threads, *b"a\0b\0")?, &folder, out)?;
+    tell_list(rt, threads, &folder, *b"a\0b\0", out)?;
+    tell_list(rt, threads, &folder, *b"a\0\xff\0", out)?;
+    tell_list(rt, threads, &folder, *b"a\0a\0", out)
 }
 
 /// Tells how many bytes are read from a place on, and the first of them.
-fn tell_read(
-    alloc: Global,
-    disk: &mut Disk<Strange>,
-    path: &HostText,
+fn tell_read<T: Threads>(
+    rt: &HostRuntime,
+    disk: &mut Disk<Strange, &T>,
+    path: &str,
     from: u64,
     out: &mut String,
 ) -> io::Result<()> {
     let mut buf = [0u8; 4];
-    let count = disk.read(alloc, path, from, &mut buf);
+    let count = disk.read(rt.alloc(), &host_text(rt.alloc(), path)?, from, &mut buf);
     let first = buf[0];
     let faults = disk.faults();
     writeln!(
@@ -205,40 +220,64 @@ fn tell_read(
 }
 
 /// Reads on, at the end, and from the front again. A read from elsewhere needs a seek.
-fn tell_reads(
-    alloc: Global,
-    disk: &mut Disk<Strange>,
-    path: &HostText,
+fn tell_reads<T: Threads>(
+    rt: &HostRuntime,
+    disk: &mut Disk<Strange, &T>,
+    path: &str,
     out: &mut String,
 ) -> io::Result<()> {
     for from in [0, 4, 5, 0, 1] {
-        tell_read(alloc, disk, path, from, out)?;
+        tell_read(rt, disk, path, from, out)?;
     }
     Ok(())
 }
 
-fn tell_write(
-    alloc: Global,
-    disk: &mut Disk<Strange>,
-    path: &HostText,
+/// Tells what a write and reads give where each is interrupted, and nothing can be sought.
+pub fn tell_slow<T: Threads>(
+    rt: &HostRuntime,
+    threads: &T,
     out: &mut String,
 ) -> io::Result<()> {
-    let done = disk.write_new(alloc, path, b"hello");
-    writeln!(out, "write-new {}: {done:?}", path.as_str())?;
+    let mut disk = strange(rt, threads, *b"a\0b\0")?;
+    tell_new(rt.alloc(), &mut disk, "slow", b"hello", out)?;
+    tell_reads(rt, &mut disk, "slow", out)
+}
+
+/// Lists the folder `g`, and removes its file `b`.
+fn tell_gone<T: Threads>(
+    rt: &HostRuntime,
+    disk: &mut Disk<Strange, &T>,
+    out: &mut String,
+) -> io::Result<()> {
+    let fault = disk.list(rt.alloc(), &host_text(rt.alloc(), "g")?).err();
+    fs::remove_file(rt, "g/b")?;
+    writeln!(out, "list g: fault {fault:?}; g/b is removed")?;
     Ok(())
 }
 
-fn tell_on(alloc: Global, disk: &mut Disk<Strange>, out: &mut String) -> io::Result<()> {
-    let path = host_text(alloc, "slow")?;
-    tell_write(alloc, disk, &path, out)?;
-    tell_reads(alloc, disk, &path, out)
+/// Tells what is read of a removed file of these bytes, after a listing, and after a write behind a second listing.
+fn tell_removed<T: Threads>(
+    rt: &HostRuntime,
+    disk: &mut Disk<Strange, &T>,
+    bytes: &[u8],
+    out: &mut String,
+) -> io::Result<()> {
+    tell_gone(rt, disk, out)?;
+    tell_reads(rt, disk, "g/b", out)?;
+    tell_new(rt.alloc(), disk, "g/b", bytes, out)?;
+    tell_gone(rt, disk, out)?;
+    tell_new(rt.alloc(), disk, "g/b", bytes, out)?;
+    fs::remove_file(rt, "g/b")?;
+    tell_read(rt, disk, "g/b", 0, out)
 }
 
-/// Tells what a write and reads give where each is interrupted, and nothing can be sought.
-pub fn tell_slow(rt: &HostRuntime, out: &mut String) -> io::Result<()> {
-    let mut disk = Disk::new(Strange {
-        rt: rt.clone()?,
-        names: *b"a\0b\0",
-    });
-    tell_on(rt.alloc(), &mut disk, out)
+/// Tells that a small file of a listed folder is read with the listing, is given once, and is forgotten at a write. A file
+/// of more bytes is read when it is asked for.
+pub fn tell_held<T: Threads>(rt: &HostRuntime, threads: &T, out: &mut String) -> io::Result<()> {
+    let mut disk = strange(rt, threads, *b"a\0b\0")?;
+    tell_removed(rt, &mut disk, b"hello", out)?;
+    let bytes = vec![in rt.alloc(); 104; 65_537]?;
+    tell_new(rt.alloc(), &mut disk, "g/b", bytes.as_slice(), out)?;
+    tell_gone(rt, &mut disk, out)?;
+    tell_read(rt, &mut disk, "g/b", 0, out)
 }

@@ -6,13 +6,19 @@
 mod disk;
 mod output;
 
-use disk::{tell_lists, tell_slow};
+use disk::{tell_held, tell_lists, tell_slow};
 use output::{tell_lost, tell_stalled, tell_taken};
 use std::io;
+use std::thread::Threads;
 
-fn tell_all(rt: &HostRuntime, out: &mut String) -> io::Result<()> {
-    tell_lists(rt, out)?;
-    tell_slow(rt, out)?;
+fn tell_all<T: Threads>(
+    rt: &HostRuntime,
+    threads: &T,
+    out: &mut String,
+) -> io::Result<()> {
+    tell_lists(rt, threads, out)?;
+    tell_slow(rt, threads, out)?;
+    tell_held(rt, threads, out)?;
     tell_taken(rt, out)?;
     tell_lost(rt, out)?;
     tell_stalled(0, out)?;
@@ -21,6 +27,6 @@ fn tell_all(rt: &HostRuntime, out: &mut String) -> io::Result<()> {
 
 fn main(rt: HostRuntime) -> io::Result<()> {
     let mut out = String::new(rt.alloc());
-    tell_all(&rt, &mut out)?;
+    tell_all(&rt, &rt, &mut out)?;
     rt.print(out)
 }

@@ -4,5 +4,5 @@
 use fx_program::{Ended, program};
 
 fn main(rt: HostRuntime) -> Ended {
-    program(&rt)
+    program(&rt, &rt)
 }

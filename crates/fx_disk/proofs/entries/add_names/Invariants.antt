@@ -1,6 +1,6 @@
 use Rattle.std.proofs.Common.{◌≤◌, vec_len}
-use Rattle.fx_disk.specs.declared.disk.TheConstants.{MOST_ENTRIES}
-use Rattle.fx_disk.proofs.disk.add_entries.Given as goal
+use Rattle.fx_disk.specs.declared.entries.TheConstants.{MOST_ENTRIES}
+use Rattle.fx_disk.proofs.entries.add_names.Given as goal
 
 abbrev pub invariant-loop-entry : goal.invariant-loop-entry
 invariant-loop-entry g l =
