@@ -7,7 +7,7 @@ use Rattle.fx_text.specs.declared.text.TheConstants.{TEXT_LIMIT}
 use Rattle.fx_expr.specs.declared.word.TheConstants.{WORD_LIMIT}
 use Rattle.fx_read_report.specs.declared.values.TheConstants.{VALUE_LEVELS}
 use Rattle.fx_folder.specs.declared.limits.TheConstants.{MAX_NODES, MAX_BYTES, MAX_TABLE}
-use Rattle.fx_disk.specs.declared.disk.TheConstants.{MOST_ENTRIES}
+use Rattle.fx_disk.specs.declared.entries.TheConstants.{MOST_ENTRIES}
 use Rattle.fx_inputs.specs.declared.views.TheConstants.{VIEWS_WORD}
 use Rattle.fx_commands.specs.declared.auditing.reading.TheConstants.{REPORT_LIMIT, REPORT_WORD}
 
