@@ -1,5 +1,5 @@
 //! The folders and files of the machine, as a host.
-ghost use Rattle.std.specs.Prelude.{◌≡◌, ◌≤◌, ◌+◌, None, true, false, OnOk, IfOk, IfSome, length, vec_len};
+ghost use Rattle.std.specs.Prelude.{◌≡◌, ◌≤◌, ◌+◌, None, true, false, IfOk, IfSome, vec_len};
 ghost use Rattle.std.specs.FinMap.{len};
 ghost use Rattle.fx_base.specs.Causes.{Rose};
 ghost use Rattle.fx_outside.specs.Path.{is_fit};

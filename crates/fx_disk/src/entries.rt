@@ -31,6 +31,7 @@ pub struct Entry {
     pub held: Option<Held>,
 }
 
+/// The kind of an entry of this type of the system.
 pub fn kind_of(kind: FileType) -> HostKind {
     if kind.is_file() {
         HostKind::File

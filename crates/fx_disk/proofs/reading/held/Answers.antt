@@ -1,4 +1,4 @@
-use Rattle.std.proofs.Common.{◌≡◌, refl}
+use Rattle.std.proofs.Common.{refl}
 use Rattle.fx_disk.specs.Held.{left_in}
 use Rattle.fx_disk.proofs.reading.held.Goals as goal
 

@@ -1,5 +1,4 @@
-use Rattle.std.proofs.Common.{◌≡◌, ◌++◌, ◌∷◌, ◌∙◌, rules}
-use Rattle.fx_disk.specs.Held.{IsTaken}
+use Rattle.std.proofs.Common.{rules}
 use Rattle.fx_disk.proofs.Taken.{taken}
 use Rattle.fx_disk.proofs.ahead.Ahead.take.Goals as goal
 
