@@ -165,7 +165,12 @@ fn tell_new<H: Host>(
 }
 
 /// Makes the folder `g` of two files.
-fn tell_making<H: Host>(alloc: Global, disk: &mut H, folder: &HostText, out: &mut String) -> io::Result<()> {
+fn tell_making<H: Host>(
+    alloc: Global,
+    disk: &mut H,
+    folder: &HostText,
+    out: &mut String,
+) -> io::Result<()> {
     let done = disk.make_dir(alloc, folder);
     writeln!(out, "make-dir {}: {done:?}", folder.as_str())?;
     tell_new(alloc, disk, "g/a", b"", out)?;
@@ -188,13 +193,14 @@ fn tell_list<T: Threads>(
 }
 
 /// Tells the listings of a folder where each name stands once, where one is not UTF-8, and where one stands twice.
-pub fn tell_lists<T: Threads>(
-    rt: &HostRuntime,
-    threads: &T,
-    out: &mut String,
-) -> io::Result<()> {
+pub fn tell_lists<T: Threads>(rt: &HostRuntime, threads: &T, out: &mut String) -> io::Result<()> {
     let folder = host_text(rt.alloc(), "g")?;
-    tell_making(rt.alloc(), &mut strange(rt, threads, *b"a\0b\0")?, &folder, out)?;
+    tell_making(
+        rt.alloc(),
+        &mut strange(rt, threads, *b"a\0b\0")?,
+        &folder,
+        out,
+    )?;
     tell_list(rt, threads, &folder, *b"a\0b\0", out)?;
     tell_list(rt, threads, &folder, *b"a\0\xff\0", out)?;
     tell_list(rt, threads, &folder, *b"a\0a\0", out)
@@ -233,11 +239,7 @@ fn tell_reads<T: Threads>(
 }
 
 /// Tells what a write and reads give where each is interrupted, and nothing can be sought.
-pub fn tell_slow<T: Threads>(
-    rt: &HostRuntime,
-    threads: &T,
-    out: &mut String,
-) -> io::Result<()> {
+pub fn tell_slow<T: Threads>(rt: &HostRuntime, threads: &T, out: &mut String) -> io::Result<()> {
     let mut disk = strange(rt, threads, *b"a\0b\0")?;
     tell_new(rt.alloc(), &mut disk, "slow", b"hello", out)?;
     tell_reads(rt, &mut disk, "slow", out)

@@ -11,11 +11,7 @@ use output::{tell_lost, tell_stalled, tell_taken};
 use std::io;
 use std::thread::Threads;
 
-fn tell_all<T: Threads>(
-    rt: &HostRuntime,
-    threads: &T,
-    out: &mut String,
-) -> io::Result<()> {
+fn tell_all<T: Threads>(rt: &HostRuntime, threads: &T, out: &mut String) -> io::Result<()> {
     tell_lists(rt, threads, out)?;
     tell_slow(rt, threads, out)?;
     tell_held(rt, threads, out)?;
