@@ -138,7 +138,7 @@ impl Files for Strange {
 }
 
 /// The host of these files, where each folder tells these names.
-fn strange<'a, T: Threads>(
+fn host_of<'a, T: Threads>(
     rt: &HostRuntime,
     threads: &'a T,
     names: [u8; 4],
@@ -185,7 +185,7 @@ fn tell_list<T: Threads>(
     names: [u8; 4],
     out: &mut String,
 ) -> io::Result<()> {
-    let mut disk = strange(rt, threads, names)?;
+    let mut disk = host_of(rt, threads, names)?;
     let fault = disk.list(rt.alloc(), folder).err();
     let faults = disk.faults();
     writeln!(out, "list {names:?}: fault {fault:?}, faults {faults}")?;
@@ -197,7 +197,7 @@ pub fn tell_lists<T: Threads>(rt: &HostRuntime, threads: &T, out: &mut String) -
     let folder = host_text(rt.alloc(), "g")?;
     tell_making(
         rt.alloc(),
-        &mut strange(rt, threads, *b"a\0b\0")?,
+        &mut host_of(rt, threads, *b"a\0b\0")?,
         &folder,
         out,
     )?;
@@ -240,7 +240,7 @@ fn tell_reads<T: Threads>(
 
 /// Tells what a write and reads give where each is interrupted, and nothing can be sought.
 pub fn tell_slow<T: Threads>(rt: &HostRuntime, threads: &T, out: &mut String) -> io::Result<()> {
-    let mut disk = strange(rt, threads, *b"a\0b\0")?;
+    let mut disk = host_of(rt, threads, *b"a\0b\0")?;
     tell_new(rt.alloc(), &mut disk, "slow", b"hello", out)?;
     tell_reads(rt, &mut disk, "slow", out)
 }
@@ -276,7 +276,7 @@ fn tell_removed<T: Threads>(
 /// Tells that a small file of a listed folder is read with the listing, is given once, and is forgotten at a write. A file
 /// of more bytes is read when it is asked for.
 pub fn tell_held<T: Threads>(rt: &HostRuntime, threads: &T, out: &mut String) -> io::Result<()> {
-    let mut disk = strange(rt, threads, *b"a\0b\0")?;
+    let mut disk = host_of(rt, threads, *b"a\0b\0")?;
     tell_removed(rt, &mut disk, b"hello", out)?;
     let bytes = vec![in rt.alloc(); 104; 65_537]?;
     tell_new(rt.alloc(), &mut disk, "g/b", bytes.as_slice(), out)?;
