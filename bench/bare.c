@@ -1,6 +1,6 @@
-/* bare IN OUT: copies a folder of directories and files by the calls that `run` makes for it, and does nothing else: each
- * directory is listed and each entry's kind asked, in order of names; each file is read to its end; then each directory is
- * made and each file written.
+/* bare IN OUT: copies a folder of directories and files by the calls that `run` makes for it, on one thread, and does
+ * nothing else: each directory is listed and each entry's kind asked, in order of names; each file is read to its end; then
+ * each directory is made and each file written.
  * bare --commits FILE COUNT: makes the calls by which `journal` keeps and tells so many commits of one look.
  * It stops at the first error. A bench tells its time beside the program's. */
 

@@ -4,6 +4,7 @@
  *   memory     a call for memory: it gives none
  *   thread     a call for a thread: there is none
  *   read       a call that opens, reads, lists or asks: an error of the disk
+ *   reads      such a call, and each one after it
  *   write      a call that makes a file or folder, writes or syncs, standard error left out: the disk is full
  *   interrupt  a call that opens a file, reads or writes: a signal interrupts it
  *   short      a call that reads or writes several bytes: it moves one
@@ -24,18 +25,23 @@
 #include <sys/types.h>
 #include <unistd.h>
 
-enum kind { NONE, MEMORY, THREAD, READ, WRITE, INTERRUPT, SHORT };
+enum kind { NONE, MEMORY, THREAD, READ, READS, WRITE, INTERRUPT, SHORT };
 
-static const char *const NAMES[] = {"", "memory", "thread", "read", "write", "interrupt", "short"};
+static const char *const NAMES[] = {"",      "memory",    "thread", "read", "reads",
+                                     "write", "interrupt", "short"};
 
 static enum kind kind = NONE;
 static unsigned long at;
 static atomic_ulong counted;
 
-/* Whether a call of this kind is the one that goes wrong. */
+/* Whether a call of this kind is one that goes wrong. */
 static int wrong(enum kind asked)
 {
-    return asked == kind && atomic_fetch_add(&counted, 1) + 1 == at;
+    int lasts = asked == READ && kind == READS;
+    if (asked != kind && !lasts)
+        return 0;
+    unsigned long number = atomic_fetch_add(&counted, 1) + 1;
+    return number == at || (lasts && at && number > at);
 }
 
 __attribute__((constructor)) static void begin(void)

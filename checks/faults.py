@@ -34,17 +34,17 @@ LINES = {
     MEMORY: b"txforest: out of memory\n",
 }
 
-# The statuses that may come if one call goes wrong.
+# The statuses that may come if one call goes wrong, or of "reads" each one from there on. A small file
+# that could not be read ahead is read again.
 KINDS = {
     "memory": {DONE, MEMORY},
     "thread": {DONE},
-    "read": {READ, WRITE},
+    "read": {DONE, READ, WRITE},
+    "reads": {READ, WRITE},
     "write": {WRITE},
     "interrupt": {DONE},
     "short": {DONE},
 }
-# So many first calls to read are for closed streams. If all are open, a run does without them.
-STREAMS = 3
 
 FILES = {
     "one": '("a" :: file)',
@@ -209,11 +209,6 @@ class Stage:
         return Ran(child.returncode, printed, line, out, counted)
 
 
-def allowed_by(kind: str, at: int) -> set[int]:
-    """The statuses that may come if this call of a kind goes wrong."""
-    return KINDS[kind] | ({DONE} if kind == "read" and at <= STREAMS else set())
-
-
 def check(ran: Ran, allowed: set[int], wholes: list[Whole]) -> None:
     """Compares a run with those without a fault: one for each order of the scripts."""
     status, printed, line, out, _ = ran
@@ -312,7 +307,7 @@ def swept(
         else sorted({1 + i * (counted - 1) // (MOST - 1) for i in range(MOST)})
     )
     for at in tried:
-        allowed = allowed_by(kind, at)
+        allowed = KINDS[kind]
         try:
             ran = stage.run(words, kind, at)
             if words[0] == "journal":
