@@ -27,6 +27,10 @@ IsTakenWhole path old new left = (held : Held) × IsTaken path old new held × (
 abbrev pub Gives : Option (List ℕ) → Option (List ℕ) → ℕ → List ℕ → Type 0
 Gives old new count buf = Consumes old new (take count buf)
 
+-- the path of an entry of a folder
+abbrev pub path_in : List ℕ → List ℕ → List ℕ
+path_in folder name = folder ++ 47 ∷ name
+
 -- the names of entries, in their order
 abbrev pub names_of : List Entry → List (List ℕ)
 names_of entries = map (λ e. e.name) entries

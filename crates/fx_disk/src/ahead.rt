@@ -59,7 +59,9 @@ fn bytes_of<R: Files>(
 }
 
 /// A file of so many bytes, if it is small and can be read.
-pub fn read_ahead<R: Files>(rt: &R, alloc: Global, path: HostText, len: u64) -> Option<Held> {
+pub fn read_ahead<R: Files>(rt: &R, alloc: Global, path: HostText, len: u64) -> Option<Held>
+    ensures { IfSome result (λ held. held.path ≡ path) }
+{
     let len = u32::try_from(len).ok()?;
     if len > MOST_BYTES {
         return None;

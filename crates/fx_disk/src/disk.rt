@@ -21,7 +21,7 @@ use std::thread::Threads;
 /// through, and it counts the calls at others. A file that is read on stays open, so that a pipe is read too.
 ///
 /// The entries of a listed folder are looked at by several threads, which read small files too. What a file held then is
-/// what is read of it. What nobody has asked for is forgotten with the next call that writes.
+/// what is read of it. One that could not be read is read again, and counts then. A call that writes forgets them all.
 #[derive(Drop)]
 pub struct Disk<R: Files, T> {
     rt: R,

@@ -1,6 +1,6 @@
 //! What a folder holds, looked at by several threads.
-ghost use Rattle.std.specs.Prelude.{◌≡◌, ◌<◌, ◌≤◌, OnOk, IfOk, IfErr, vec_len};
-ghost use Rattle.fx_disk.specs.Held.{names_of, IsLookOf};
+ghost use Rattle.std.specs.Prelude.{◌≡◌, ◌<◌, ◌≤◌, OnOk, IfOk, IfErr, IfSome, vec_len};
+ghost use Rattle.fx_disk.specs.Held.{names_of, path_in, IsLookOf};
 
 use crate::ahead::{Held, read_ahead};
 use fx_outside::{HostKind, HostText};
@@ -85,7 +85,9 @@ pub fn names_in<R: Files + AllocGlobal + Clone + Drop>(
 }
 
 /// The path of an entry of a folder.
-fn path_in(alloc: Global, folder: &str, name: &HostText) -> Result<HostText, AllocError> {
+fn path_in(alloc: Global, folder: &str, name: &HostText) -> Result<HostText, AllocError>
+    ensures { IfOk result (λ path. path ≡ path_in folder.now name.now) }
+{
     let name = name.as_str();
     let room = folder.len().saturating_add(name.len()).saturating_add(1);
     let mut path = String::with_capacity(alloc, room)?;
@@ -103,7 +105,9 @@ fn look<R: Files>(
     room: &mut usize,
     name: HostText,
 ) -> io::Result<Entry>
-    ensures { IfOk result (λ entry. entry.name ≡ name) }
+    ensures name { IfOk result (λ entry. entry.name ≡ name) }
+    ensures held { IfOk result
+        (λ entry. IfSome entry.held (λ held. held.path ≡ path_in folder.now name)) }
 {
     let path = path_in(alloc, folder, &name)?;
     let found = fs::symlink_metadata(rt, path.as_str())?;
