@@ -1,5 +1,6 @@
 -- What is read ahead of a file, and what is given of it.
-use Rattle.std.specs.Prelude.{◌≡◌, ◌++◌, ◌∷◌, ℕ, List, map, Option, Some, Vec, vec_len, take}
+use Rattle.std.specs.Prelude.{◌≡◌, ◌++◌, ◌∷◌, ℕ, List, map, Option, Some, IfSome, Vec, vec_len, take}
+use Rattle.std.specs.List.{All}
 use Rattle.std.specs.Io.KnownBytes.{Consumes}
 use Rattle.std.specs.Io.Cursor.{cursor_remaining}
 use Rattle.fx_disk.specs.declared.ahead.Held.{Held}
@@ -35,7 +36,12 @@ path_in folder name = folder ++ 47 ∷ name
 abbrev pub names_of : List Entry → List (List ℕ)
 names_of entries = map (λ e. e.name) entries
 
+-- what is held of an entry is held with the entry's path
+abbrev pub IsHeldIn : List ℕ → Entry → Type 0
+IsHeldIn folder entry = IfSome entry.held (λ held. held.path ≡ path_in folder entry.name)
+
 -- an entry for each name of a task, in their order
 pub record IsLookOf {A : Type 0} (task : Task) (entries : Vec Entry A) : Type 0 where
   pub len : vec_len entries ≡ vec_len task.names
   pub names : names_of entries.items ≡ task.names.items
+  pub held : All (IsHeldIn task.folder) entries.items

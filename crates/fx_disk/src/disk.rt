@@ -3,7 +3,9 @@ ghost use Rattle.std.specs.Prelude.{◌≡◌, ◌≤◌, ◌+◌, None, true, f
 ghost use Rattle.std.specs.FinMap.{len};
 ghost use Rattle.fx_base.specs.Causes.{Rose};
 ghost use Rattle.fx_outside.specs.Path.{is_fit};
+ghost use Rattle.std.specs.List.{All};
 ghost use Rattle.fx_disk.specs.Silent.{silent, Counts};
+ghost use Rattle.fx_disk.specs.Held.{IsHeldIn};
 
 use crate::ahead::{Ahead, Held};
 use crate::entries::{Entry, MOST_ENTRIES, entries_of, kind_of, names_in};
@@ -141,7 +143,8 @@ impl<R: Files + AllocGlobal, T> Disk<R, T> {
 impl<R: Files + AllocGlobal + Clone + Drop, T: Threads> Disk<R, T> {
     /// The entries of a folder, in order of name.
     fn entries_in(&self, alloc: Global, folder: &str) -> io::Result<Vec<Entry>>
-        ensures { IfOk result (λ entries. vec_len entries ≤ MOST_ENTRIES) }
+        ensures few { IfOk result (λ entries. vec_len entries ≤ MOST_ENTRIES) }
+        ensures held { IfOk result (λ entries. All (IsHeldIn folder.now) entries.items) }
     {
         let names = names_in(&self.rt, alloc, folder)?;
         let room = self.ahead.room();

@@ -1,6 +1,7 @@
 //! What a folder holds, looked at by several threads.
-ghost use Rattle.std.specs.Prelude.{◌≡◌, ◌<◌, ◌≤◌, OnOk, IfOk, IfErr, IfSome, vec_len};
-ghost use Rattle.fx_disk.specs.Held.{names_of, path_in, IsLookOf};
+ghost use Rattle.std.specs.Prelude.{◌≡◌, ◌<◌, ◌≤◌, OnOk, IfOk, IfErr, vec_len};
+ghost use Rattle.std.specs.List.{All};
+ghost use Rattle.fx_disk.specs.Held.{names_of, path_in, IsHeldIn, IsLookOf};
 
 use crate::ahead::{Held, read_ahead};
 use fx_outside::{HostKind, HostText};
@@ -106,8 +107,7 @@ fn look<R: Files>(
     name: HostText,
 ) -> io::Result<Entry>
     ensures name { IfOk result (λ entry. entry.name ≡ name) }
-    ensures held { IfOk result
-        (λ entry. IfSome entry.held (λ held. held.path ≡ path_in folder.now name)) }
+    ensures held { IfOk result (IsHeldIn folder.now) }
 {
     let path = path_in(alloc, folder, &name)?;
     let found = fs::symlink_metadata(rt, path.as_str())?;
@@ -133,6 +133,7 @@ fn look_at_each<R: Files>(
 ) -> io::Result<Vec<Entry>>
     ensures len { IfOk result (λ entries. vec_len entries ≡ vec_len names) }
     ensures names { IfOk result (λ entries. names_of entries.items ≡ names.items) }
+    ensures held { IfOk result (λ entries. All (IsHeldIn folder.now) entries.items) }
 {
     let mut entries = Vec::with_capacity(alloc, names.len())?;
     for name in names {
@@ -204,6 +205,7 @@ fn look_at<T: Threads>(
     requires { 0 < piece }
     ensures len { IfOk result (λ entries. vec_len entries ≡ vec_len names) }
     ensures names { IfOk result (λ entries. names_of entries.items ≡ names.items) }
+    ensures held { IfOk result (λ entries. All (IsHeldIn folder.now) entries.items) }
 {
     if names.len() <= piece {
         return look_at_each(machine, alloc, folder, room, names);
@@ -237,6 +239,7 @@ pub fn entries_of<T: Threads>(
 ) -> io::Result<Vec<Entry>>
     ensures len { IfOk result (λ entries. vec_len entries ≡ vec_len names) }
     ensures names { IfOk result (λ entries. names_of entries.items ≡ names.items) }
+    ensures held { IfOk result (λ entries. All (IsHeldIn folder.now) entries.items) }
 {
     let piece = names.len().div_ceil(THREADS).max(SMALLEST_PIECE);
     look_at(
