@@ -1,15 +1,15 @@
 //! Bytes that their copies may share: what a file holds, and what a text is.
 ghost use Rattle.std.specs.Prelude.{◌≡◌, ◌≤◌, [], length, IfOk};
 ghost use Rattle.std.specs.Vec.{vec_capacity};
-ghost use Rattle.fx_base.specs.Contents.{held_bytes, HasRoom, AreBytes};
+ghost use Rattle.fx_base.specs.Contents.{held_bytes, taken_bytes, HasRoom, AreBytes};
 
-use crate::NoMemory;
+use crate::{NoMemory, ShortText};
 use std::alloc::{AllocError, Global};
 use std::marker::Model;
 use std::sync::Arc;
 
-/// Bytes in their order, which contracts see as the list of them. From `share` on a copy shares them and goes through
-/// none of them; it takes room for as many beside them, so that `into_vec` never needs memory.
+/// Bytes in their order, which contracts see as the list of them. A few lie in the value itself. From `share` on a copy shares
+/// many and goes through none of them; it takes room for as many beside them, so that `take` never needs memory.
 #[derive(Debug)]
 pub struct Content {
     held: Held,
@@ -22,11 +22,20 @@ impl Drop for Content {
     }
 }
 
-/// Bytes by themselves, or bytes that others may hold too, with room for a copy of them.
+/// A few bytes, bytes by themselves, or bytes that others may hold too, with room for a copy of them.
 #[derive(Debug, Drop)]
 enum Held {
+    Few(ShortText),
     Own(Vec<u8>),
     Shared(Arc<Vec<u8>>, Vec<u8>),
+}
+
+/// The bytes of a content that is given up.
+#[derive(Debug, Drop)]
+pub enum Taken {
+    /// So few that they lie in the value itself.
+    Few(ShortText),
+    Many(Vec<u8>),
 }
 
 /// The fewest bytes that are shared; fewer are copied as fast.
@@ -55,8 +64,27 @@ impl Content {
     pub fn of(bytes: Vec<u8>) -> Content
         ensures { result ≡ bytes.items }
     {
-        Content {
-            held: Held::Own(bytes),
+        match ShortText::of(bytes.as_slice()) {
+            Some(few) => Content {
+                held: Held::Few(few),
+            },
+            None => Content {
+                held: Held::Own(bytes),
+            },
+        }
+    }
+
+    /// A copy of these bytes.
+    pub fn from_slice(alloc: Global, bytes: &[u8]) -> Result<Content, NoMemory>
+        ensures { IfOk result (λ content. content ≡ bytes.now) }
+    {
+        match ShortText::of(bytes) {
+            Some(few) => Ok(Content {
+                held: Held::Few(few),
+            }),
+            None => Ok(Content {
+                held: Held::Own(Vec::from_slice(alloc, bytes)?),
+            }),
         }
     }
 
@@ -83,19 +111,21 @@ impl Content {
         ensures bytes { AreBytes self.now }
     {
         match &self.held {
+            Held::Few(bytes) => bytes.as_slice(),
             Held::Own(bytes) => bytes.as_slice(),
             Held::Shared(bytes, _) => bytes.as_slice(),
         }
     }
 
-    /// The bytes by themselves. They are copied only where another content shares them.
-    pub fn into_vec(self) -> Vec<u8>
-        ensures { result.items ≡ self }
+    /// The bytes by themselves. Many are copied only where another content shares them.
+    pub fn take(self) -> Taken
+        ensures { taken_bytes result ≡ self }
     {
         let Content { held } = self;
         match held {
-            Held::Own(bytes) => bytes,
-            Held::Shared(bytes, spare) => taken_out(bytes, spare),
+            Held::Few(bytes) => Taken::Few(bytes),
+            Held::Own(bytes) => Taken::Many(bytes),
+            Held::Shared(bytes, spare) => Taken::Many(taken_out(bytes, spare)),
         }
     }
 
@@ -115,6 +145,7 @@ fn shared(alloc: Global, held: Held) -> Result<Held, NoMemory>
     ensures room { IfOk result HasRoom }
 {
     match held {
+        Held::Few(bytes) => Ok(Held::Few(bytes)),
         Held::Own(bytes) => {
             if bytes.len() < FEWEST_SHARED {
                 return Ok(Held::Own(bytes));
@@ -132,6 +163,7 @@ fn copied(alloc: Global, held: &Held) -> Result<Held, NoMemory>
     ensures room { IfOk result HasRoom }
 {
     match held {
+        Held::Few(bytes) => Ok(Held::Few(bytes.copy())),
         Held::Own(bytes) => Ok(Held::Own(Vec::from_slice(alloc, bytes.as_slice())?)),
         Held::Shared(bytes, _) => {
             let spare = Vec::with_capacity(alloc, bytes.len())?;
@@ -163,6 +195,9 @@ impl Clone for Content {
 
     fn clone(&self) -> Result<Content, AllocError> {
         match &self.held {
+            Held::Few(bytes) => Ok(Content {
+                held: Held::Few(bytes.copy()),
+            }),
             Held::Own(bytes) => Ok(Content {
                 held: Held::Own(bytes.clone()?),
             }),

@@ -119,7 +119,7 @@ fn dir_node(alloc: Global, value: &Value, likely: &Names) -> Result<Node, Halt>
 fn content(alloc: Global, text: &Text) -> Result<Bytes, NoMemory>
     ensures { IfOk result (λ bytes. (bytes ≡ text.now) × IsContent text.now) }
 {
-    let bytes = Bytes::from_vec(text.to_vec(alloc)?);
+    let bytes = Bytes::from_slice(alloc, text.as_slice())?;
     // A content is within its limits.
     let _limits = bytes.as_slice();
     Ok(bytes)

@@ -34,7 +34,6 @@ fn add_piece(alloc: Global, found: &mut Vec<Text>, piece: &[u8]) -> Result<(), N
     if piece.is_empty() {
         return Ok(());
     }
-    let bytes = Vec::from_slice(alloc, piece)?;
-    found.push(Text::from_vec(bytes))?;
+    found.push(Text::from_slice(alloc, piece)?)?;
     Ok(())
 }

@@ -2,6 +2,7 @@ pub mod Changes
 pub mod Examples
 pub mod Faults
 pub mod Filestore
+pub mod Held
 pub mod Landings
 pub mod Names
 pub mod Orders

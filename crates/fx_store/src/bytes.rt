@@ -5,6 +5,7 @@ ghost use Rattle.fx_store.specs.declared.limits.TheConstants.{MAX_FILE_BYTES};
 
 use crate::limits::MAX_FILE_BYTES;
 use fx_base::{Content, NoMemory};
+use fx_text::Text;
 use std::alloc::{AllocError, Global};
 use std::marker::Model;
 
@@ -75,13 +76,23 @@ impl Bytes {
         self.content.as_slice()
     }
 
-    /// The bytes by themselves. They are copied only where other bytes share them.
-    pub fn into_vec(self) -> Vec<u8>
-        ensures bytes { result.items ≡ self }
+    /// A copy of these bytes; the caller keeps the limit.
+    pub fn from_slice(alloc: Global, bytes: &[u8]) -> Result<Bytes, NoMemory>
+        requires { length bytes.now ≤ MAX_FILE_BYTES }
+        ensures { IfOk result (λ b. b ≡ bytes.now) }
+    {
+        Ok(Bytes {
+            content: Content::from_slice(alloc, bytes)?,
+        })
+    }
+
+    /// The bytes as a text, which takes no memory. Many are copied only where other bytes share them.
+    pub fn into_text(self) -> Text
+        ensures bytes { result ≡ self }
         ensures content { IsContent self }
     {
         let Bytes { content } = self;
-        content.into_vec()
+        Text::from_content(content)
     }
 
     /// The same bytes once more: shared, where these are shared, and else copied.

@@ -6,10 +6,11 @@ ghost use Rattle.std.specs.Ordering.{as_partial_cmp};
 ghost use Rattle.std.specs.Str.{is_utf8};
 ghost use Rattle.std.proofs.Common.{ap};
 ghost use Rattle.fx_store.specs.Names.{is_name, is_reserved, IsName, name_cmp};
+ghost use Rattle.fx_store.specs.Held.{held_bytes};
 ghost use Rattle.fx_store.specs.Orders.{name_total, name_eq_same};
 
 use crate::limits::MAX_NAME_BYTES;
-use fx_base::NoMemory;
+use fx_base::{NoMemory, Short, compare_bytes, same_bytes};
 use fx_text::Text;
 use std::alloc::{AllocError, AllocFailed, Global};
 use std::cmp::Ordering;
@@ -59,29 +60,37 @@ impl From<NoMemory> for PathFault {
 }
 
 /// The name of an entry of a directory: UTF-8 of 1 to 255 bytes without `/` and NUL, and not `.`, `..` or
-/// `.forest-links`. Names are ordered by bytes. A copy shares the bytes, and takes no memory for them.
+/// `.forest-links`. Names are ordered by bytes. A copy takes no memory: a few bytes lie in the value itself, and more are
+/// shared.
 #[derive(Debug)]
 pub struct Name {
-    bytes: ArcSlice<u8>,
+    held: Held,
 }
 
 /// It is written out, so that its parts are dropped in this crate alone.
 impl Drop for Name {
     fn drop(self) {
-        let Name { bytes: _bytes } = self;
+        let Name { held: _held } = self;
     }
+}
+
+/// A few bytes, or bytes that others may hold too.
+#[derive(Debug, Drop)]
+enum Held {
+    Few(Short<14>),
+    Shared(ArcSlice<u8>),
 }
 
 impl Model for Name {
     ghost use Rattle.std.specs.Prelude.{List, ℕ};
-    ghost use Rattle.std.specs.Arc.{arc_slice_items};
     ghost use Rattle.fx_store.specs.Names.{IsName};
+    ghost use Rattle.fx_store.specs.Held.{held_bytes};
 
     ghost Value = { List ℕ };
 
-    ghost view = { λ n. arc_slice_items n.bytes };
+    ghost view = { λ n. held_bytes n.held };
 
-    ghost invariant = { λ n. IsName (arc_slice_items n.bytes) };
+    ghost invariant = { λ n. IsName (held_bytes n.held) };
 }
 
 impl Name {
@@ -102,9 +111,14 @@ impl Name {
         requires { IsName bytes.now }
         ensures { IfOk result (λ n. n ≡ bytes.now) }
     {
-        Ok(Name {
-            bytes: ArcSlice::from_slice(alloc, bytes)?,
-        })
+        match Short::of(bytes) {
+            Some(few) => Ok(Name {
+                held: Held::Few(few),
+            }),
+            None => Ok(Name {
+                held: Held::Shared(ArcSlice::from_slice(alloc, bytes)?),
+            }),
+        }
     }
 
     /// The name, as a slice of its bytes.
@@ -112,24 +126,43 @@ impl Name {
         ensures bytes { result.now ≡ self.now }
         ensures name { IsName self.now }
     {
-        self.bytes.as_slice()
+        match &self.held {
+            Held::Few(bytes) => bytes.as_slice(),
+            Held::Shared(bytes) => bytes.as_slice(),
+        }
     }
 
-    /// The name as a text, which shares its bytes.
+    /// The name as a text, which takes no memory.
+    #[tactic(auto, using(crate::proofs::PathLists::short_name))]
     pub fn text(&self) -> Result<Text, NoMemory>
         ensures { IfOk result (λ text. text ≡ self.now) }
     {
-        Ok(Text::from_shared(self.bytes.clone()?))
+        match &self.held {
+            Held::Few(bytes) => match Text::few(bytes.as_slice()) {
+                Some(text) => Ok(text),
+                None => unreachable!(),
+            },
+            Held::Shared(bytes) => Ok(Text::from_shared(bytes.clone()?)),
+        }
     }
 
-    /// An equal name, which shares its bytes with this one.
+    /// An equal name, which takes no memory.
     pub fn copy(&self, _alloc: Global) -> Result<Name, NoMemory>
         ensures copied { IfOk result (λ n. n ≡ self.now) }
         ensures name { IsName self.now }
     {
         Ok(Name {
-            bytes: self.bytes.clone()?,
+            held: copied(&self.held)?,
         })
+    }
+}
+
+fn copied(held: &Held) -> Result<Held, AllocError>
+    ensures { IfOk result (λ other. held_bytes other ≡ held_bytes held.now) }
+{
+    match held {
+        Held::Few(bytes) => Ok(Held::Few(bytes.copy())),
+        Held::Shared(bytes) => Ok(Held::Shared(bytes.clone()?)),
     }
 }
 
@@ -173,7 +206,7 @@ impl Clone for Name {
 
     fn clone(&self) -> Result<Name, AllocError> {
         Ok(Name {
-            bytes: self.bytes.clone()?,
+            held: copied(&self.held)?,
         })
     }
 }
@@ -184,7 +217,7 @@ impl PartialEq for Name {
     ghost laws = { partial_equiv_from_equiv nat_list_eq_equiv };
 
     fn eq(&self, other: &Name) -> bool {
-        self.bytes == other.bytes
+        same_bytes(self.as_slice(), other.as_slice())
     }
 }
 
@@ -212,7 +245,7 @@ impl Ord for Name {
     ghost matches_eq = { texts_ties };
 
     fn cmp(&self, other: &Name) -> Ordering {
-        self.bytes.cmp(&other.bytes)
+        compare_bytes(self.as_slice(), other.as_slice())
     }
 }
 

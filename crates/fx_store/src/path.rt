@@ -1,5 +1,6 @@
 //! Paths, as lists of names from the root on.
-ghost use Rattle.std.specs.Prelude.{◌≡◌, ◌-◌, ◌<◌, ℕ, List, [], ◌∷◌, length, IfOk, slice_get, option_copied, refl};
+ghost use Rattle.std.specs.Prelude.{◌≡◌, ◌-◌, ◌<◌, ℕ, List, [], ◌∷◌, length, IfOk, slice_get, option_copied, bytes_eq, refl};
+ghost use Rattle.std.specs.Cmp.Lexicographic.{pointwise};
 ghost use Rattle.std.specs.Slice.Iter.{iter_rest};
 ghost use Rattle.std.specs.Cmp.{partial_equiv_from_equiv, partial_order_from_total, eq_by_cmp_equiv};
 ghost use Rattle.std.specs.Ordering.{as_partial_cmp, eq_by_cmp};
@@ -178,6 +179,27 @@ fn with_room(alloc: Global, names: &[Name], more: usize) -> Result<Vec<Name>, No
     Ok(copy)
 }
 
+/// Whether the names are the same, one by one.
+fn are_same(a: &[Name], b: &[Name]) -> bool
+    ensures { result ≡ pointwise bytes_eq a.now b.now }
+{
+    let mut a = a;
+    let mut b = b;
+    'names: while let Some((x, c)) = a.split_first() {
+        match b.split_first() {
+            None => return false,
+            Some((y, d)) => {
+                if x != y {
+                    return false;
+                }
+                a = c;
+                b = d;
+            }
+        }
+    }
+    b.is_empty()
+}
+
 impl Clone for Path {
     ghost is_clone = { λ x y. y ≡ x };
 
@@ -194,7 +216,7 @@ impl PartialEq for Path {
     ghost laws = { partial_equiv_from_equiv (eq_by_cmp_equiv path_total) };
 
     fn eq(&self, other: &Path) -> bool {
-        self.names == other.names
+        are_same(self.names.as_slice(), other.names.as_slice())
     }
 }
 

@@ -1,4 +1,4 @@
-ghost use Rattle.std.specs.Prelude.{◌≡◌, ◌++◌, [], Some, IfOk, length, nat_eq, refl};
+ghost use Rattle.std.specs.Prelude.{◌≡◌, ◌<◌, ◌++◌, [], Some, IfOk, IfSome, IfNone, length, nat_eq, refl};
 ghost use Rattle.std.specs.Ordering.{nat_cmp};
 ghost use Rattle.std.specs.Cmp.{partial_equiv_from_equiv};
 ghost use Rattle.std.specs.Cmp.Lexicographic.{pointwise, slice_cmp, nat_list_eq_equiv, nat_list_cmp_total, texts_ties, texts_po};
@@ -6,7 +6,7 @@ ghost use Rattle.std.specs.Arc.{arc_slice_items};
 ghost use Rattle.fx_text.specs.Bytes.{IsText};
 ghost use Rattle.fx_text.specs.Letters.{held_bytes};
 
-use fx_base::NoMemory;
+use fx_base::{Content, NoMemory, ShortText, Taken, compare_bytes, same_bytes};
 use std::alloc::{AllocError, Global};
 use std::cmp::Ordering;
 use std::marker::Model;
@@ -16,7 +16,8 @@ use std::sync::ArcSlice;
 pub const TEXT_LIMIT: usize = 1_048_576;
 
 /// A text value: at most [`TEXT_LIMIT`] bytes of any kind, UTF-8 or not. Contracts see the list of its bytes.
-/// A copy of one that was made from shared bytes shares them.
+/// A few bytes lie in the value itself, so that a copy takes no memory; a copy of one that was made from shared bytes shares
+/// them.
 #[derive(Debug)]
 pub struct Text {
     held: Held,
@@ -29,9 +30,10 @@ impl Drop for Text {
     }
 }
 
-/// Bytes by themselves, or bytes that others may hold too.
+/// A few bytes, bytes by themselves, or bytes that others may hold too.
 #[derive(Debug, Drop)]
 enum Held {
+    Few(ShortText),
     Own(Vec<u8>),
     Shared(ArcSlice<u8>),
 }
@@ -63,7 +65,50 @@ impl Text {
         requires { IsText v.items }
         ensures { result ≡ v.items }
     {
-        Text { held: Held::Own(v) }
+        match ShortText::of(v.as_slice()) {
+            Some(few) => Text {
+                held: Held::Few(few),
+            },
+            None => Text { held: Held::Own(v) },
+        }
+    }
+
+    /// The text of a copy of these bytes; the caller keeps the limit.
+    pub fn from_slice(alloc: Global, bytes: &[u8]) -> Result<Text, NoMemory>
+        requires { IsText bytes.now }
+        ensures { IfOk result (λ text. text ≡ bytes.now) }
+    {
+        match Text::few(bytes) {
+            Some(text) => Ok(text),
+            None => Ok(Text {
+                held: Held::Own(Vec::from_slice(alloc, bytes)?),
+            }),
+        }
+    }
+
+    /// The text of a copy of these bytes, which takes no memory; None exactly where they are more than 30.
+    pub fn few(bytes: &[u8]) -> Option<Text>
+        ensures some { IfSome result (λ text. text ≡ bytes.now) }
+        ensures none { IfNone result (30 < length bytes.now) }
+    {
+        let few = ShortText::of(bytes)?;
+        prove!(few.as_slice().len() <= TEXT_LIMIT);
+        Some(Text {
+            held: Held::Few(few),
+        })
+    }
+
+    /// The text of the bytes of a content, which takes no memory; the caller keeps the limit.
+    pub fn from_content(content: Content) -> Text
+        requires { IsText content }
+        ensures { result ≡ content }
+    {
+        match content.take() {
+            Taken::Few(few) => Text {
+                held: Held::Few(few),
+            },
+            Taken::Many(bytes) => Text::from_vec(bytes),
+        }
     }
 
     /// The text of these bytes, which it shares; the caller keeps the limit.
@@ -82,6 +127,7 @@ impl Text {
         ensures limit { IsText self.now }
     {
         match &self.held {
+            Held::Few(bytes) => bytes.as_slice(),
             Held::Own(bytes) => bytes.as_slice(),
             Held::Shared(bytes) => bytes.as_slice(),
         }
@@ -128,6 +174,7 @@ fn copied(alloc: Global, held: &Held) -> Result<Held, NoMemory>
     ensures { IfOk result (λ other. held_bytes other ≡ held_bytes held.now) }
 {
     match held {
+        Held::Few(bytes) => Ok(Held::Few(bytes.copy())),
         Held::Own(bytes) => Ok(Held::Own(Vec::from_slice(alloc, bytes.as_slice())?)),
         Held::Shared(bytes) => Ok(Held::Shared(bytes.clone()?)),
     }
@@ -138,6 +185,9 @@ impl Clone for Text {
 
     fn clone(&self) -> Result<Text, AllocError> {
         match &self.held {
+            Held::Few(bytes) => Ok(Text {
+                held: Held::Few(bytes.copy()),
+            }),
             Held::Own(bytes) => Ok(Text {
                 held: Held::Own(bytes.clone()?),
             }),
@@ -154,7 +204,7 @@ impl PartialEq for Text {
     ghost laws = { partial_equiv_from_equiv nat_list_eq_equiv };
 
     fn eq(&self, other: &Text) -> bool {
-        self.as_slice() == other.as_slice()
+        same_bytes(self.as_slice(), other.as_slice())
     }
 }
 
@@ -182,6 +232,6 @@ impl Ord for Text {
     ghost matches_eq = { texts_ties };
 
     fn cmp(&self, other: &Text) -> Ordering {
-        self.as_slice().cmp(other.as_slice())
+        compare_bytes(self.as_slice(), other.as_slice())
     }
 }
