@@ -6,7 +6,7 @@ ghost use Rattle.fx_report.specs.Events as told;
 ghost use Rattle.fx_report.specs.Report as report;
 
 use crate::printed::{PrintedEntries, PrintedEntry};
-use crate::quotes::{add_bytes, add_number, add_quoted_path};
+use crate::quotes::{add_around, add_bytes, add_number, add_quoted_path, add_spelled_path};
 use crate::values::add_value;
 use fx_base::NoMemory;
 use fx_board::{Board, Entry, Event, Events, Retries, Retry};
@@ -69,13 +69,13 @@ fn add_refusal(out: &mut Vec<u8>, refusal: &Refusal) -> Result<(), NoMemory>
     }
 }
 
+#[tactic(auto, unfolding(crate::specs::Report::field))]
 fn add_stop(out: &mut Vec<u8>, command: u32, refusal: &Refusal) -> Result<(), NoMemory>
     ensures { OnOk result
         (out.new.items ≡ out.old.items ++ report.end_text (End.Stopped command refusal.now)) }
 {
-    add_field(out, b"stopped ", u64::from(command))?;
-    add_field(out, b" ", u64::from(refusal.number()))?;
-    add_bytes(out, b" ")?;
+    add_around(out, b"stopped ", u64::from(command), b" ")?;
+    add_around(out, b"", u64::from(refusal.number()), b" ")?;
     add_refusal(out, refusal)
 }
 
@@ -91,6 +91,7 @@ pub fn add_end(out: &mut Vec<u8>, end: &End) -> Result<(), NoMemory>
 }
 
 /// Adds the line of an entry, without its line feed.
+#[tactic(auto, unfolding(crate::specs::Report::field))]
 pub fn add_entry_words(
     out: &mut Vec<u8>,
     number: u64,
@@ -101,10 +102,9 @@ pub fn add_entry_words(
     ensures { OnOk result
         (out.new.items ≡ out.old.items ++ report.entry_words number shell txn end.now) }
 {
-    add_field(out, b"entry ", number)?;
-    add_field(out, b" shell ", u64::from(shell))?;
-    add_field(out, b" txn ", u64::from(txn))?;
-    add_bytes(out, b" ")?;
+    add_around(out, b"entry ", number, b" shell ")?;
+    add_around(out, b"", u64::from(shell), b" txn ")?;
+    add_around(out, b"", u64::from(txn), b" ")?;
     add_end(out, end)
 }
 
@@ -193,11 +193,12 @@ fn add_entries(out: &mut Vec<u8>, entries: &PrintedEntries) -> Result<(), NoMemo
 pub fn add_retry_words(out: &mut Vec<u8>, retry: &Retry) -> Result<(), NoMemory>
     ensures { OnOk result (out.new.items ≡ out.old.items ++ report.retry_words retry.now) }
 {
-    add_field(out, b"retry shell ", u64::from(retry.shell))?;
-    add_field(out, b" txn ", u64::from(retry.txn))?;
-    add_field(out, b" entry ", retry.entry)?;
-    add_bytes(out, b" path ")?;
-    add_quoted_path(out, &retry.path)
+    add_around(out, b"retry shell ", u64::from(retry.shell), b" txn ")?;
+    add_around(out, b"", u64::from(retry.txn), b" entry ")?;
+    add_around(out, b"", retry.entry, b" path \"")?;
+    add_spelled_path(out, &retry.path)?;
+    add_bytes(out, b"\"")?;
+    Ok(())
 }
 
 #[tactic(auto, unfolding(crate::specs::Report::retry_line))]
@@ -254,52 +255,57 @@ pub fn printed_report(
     Ok(LongText::from_vec(out))
 }
 
-/// The report of a log and its retries, whose entries are its transactions, run whole, one after another.
-#[tactic(auto, unfolding(crate::specs::Report::report_text))]
+/// Adds the report of a log and its retries, whose entries are its transactions, run whole, one after another.
+pub fn add_report(out: &mut Vec<u8>, board: &Board, retries: &Retries) -> Result<(), NoMemory>
+    ensures { OnOk result (out.new.items
+        ≡ out.old.items ++ whole.report board.now.base board.now.order retries.now) }
+{
+    add_head(out, board.len())?;
+    add_log(out, board)?;
+    add_tail(out, retries)?;
+    Ok(())
+}
+
+/// The report of a log and its retries.
 pub fn report(alloc: Global, board: &Board, retries: &Retries) -> Result<LongText, NoMemory>
     ensures { IfOk result (λ text. text ≡ whole.report board.now.base board.now.order retries.now) }
 {
     let mut out = Vec::new(alloc);
-    add_head(&mut out, board.len())?;
-    add_log(&mut out, board)?;
-    add_tail(&mut out, retries)?;
+    add_report(&mut out, board, retries)?;
     Ok(LongText::from_vec(out))
 }
 
-#[tactic(auto, unfolding(crate::specs::Events::look_line))]
+#[tactic(auto, unfolding(crate::specs::Events::look_line, crate::specs::Report::field, crate::specs::Print::quote))]
 fn add_look(out: &mut Vec<u8>, shell: u32, path: &Path, position: u64) -> Result<(), NoMemory>
     ensures { OnOk result
         (out.new.items ≡ out.old.items ++ told.look_line shell path.now position) }
 {
-    add_field(out, b"look ", u64::from(shell))?;
-    add_bytes(out, b" ")?;
-    add_quoted_path(out, path)?;
-    add_field(out, b" ", position)?;
-    add_bytes(out, b"\n")
+    add_around(out, b"look ", u64::from(shell), b" \"")?;
+    add_spelled_path(out, path)?;
+    add_around(out, b"\" ", position, b"\n")
 }
 
-#[tactic(auto, unfolding(crate::specs::Events::settled_line))]
+#[tactic(auto, unfolding(crate::specs::Events::settled_line, crate::specs::Report::field, crate::specs::Print::quote))]
 fn add_settling(out: &mut Vec<u8>, shell: u32, entry: u64) -> Result<(), NoMemory>
     ensures { OnOk result (out.new.items ≡ out.old.items ++ told.settled_line shell entry) }
 {
-    add_field(out, b"settled ", u64::from(shell))?;
-    add_field(out, b" ", entry)?;
-    add_bytes(out, b"\n")
+    add_around(out, b"settled ", u64::from(shell), b" ")?;
+    add_around(out, b"", entry, b"\n")
 }
 
-#[tactic(auto, unfolding(crate::specs::Events::conflict_line))]
+#[tactic(auto, unfolding(crate::specs::Events::conflict_line, crate::specs::Report::field, crate::specs::Print::quote))]
 fn add_conflict(out: &mut Vec<u8>, shell: u32, entry: u64, path: &Path) -> Result<(), NoMemory>
     ensures { OnOk result
         (out.new.items ≡ out.old.items ++ told.conflict_line shell entry path.now) }
 {
-    add_field(out, b"conflict ", u64::from(shell))?;
-    add_field(out, b" ", entry)?;
-    add_bytes(out, b" ")?;
-    add_quoted_path(out, path)?;
-    add_bytes(out, b"\n")
+    add_around(out, b"conflict ", u64::from(shell), b" ")?;
+    add_around(out, b"", entry, b" \"")?;
+    add_spelled_path(out, path)?;
+    add_bytes(out, b"\"\n")
 }
 
-fn add_event(out: &mut Vec<u8>, event: &Event) -> Result<(), NoMemory>
+/// Adds the line of an event.
+pub fn add_event_line(out: &mut Vec<u8>, event: &Event) -> Result<(), NoMemory>
     ensures { OnOk result (out.new.items ≡ out.old.items ++ told.event_line event.now) }
 {
     match event {
@@ -319,7 +325,7 @@ pub fn event_lines(alloc: Global, events: &Events) -> Result<LongText, NoMemory>
 {
     let mut out = Vec::new(alloc);
     for event in events {
-        add_event(&mut out, event)?;
+        add_event_line(&mut out, event)?;
     }
     Ok(LongText::from_vec(out))
 }

@@ -1,4 +1,4 @@
-ghost use Rattle.std.specs.Prelude.{◌≡◌, ◌<◌, ◌≤◌, ◌++◌, [], ◌∷◌, true, false, length, take, OnOk};
+ghost use Rattle.std.specs.Prelude.{◌≡◌, ◌+◌, ◌<◌, ◌≤◌, ◌++◌, [], ◌∷◌, true, false, length, take, drop, OnOk};
 ghost use Rattle.std.specs.Fmt.{decimal, digit_glyph};
 ghost use Rattle.std.specs.List.{flat_map};
 ghost use Rattle.fx_store.specs.Names.{path_text};
@@ -6,7 +6,7 @@ ghost use Rattle.fx_report.specs.Print.{hex_pair, quote, spelled};
 
 use fx_base::NoMemory;
 use fx_store::{Name, Path};
-use itoa::Buffer;
+use itoa::{Buffer, write_digits};
 
 /// Adds the bytes at the end of the text.
 pub fn add_bytes(out: &mut Vec<u8>, bytes: &[u8]) -> Result<(), NoMemory>
@@ -22,6 +22,37 @@ pub fn add_number(out: &mut Vec<u8>, number: u64) -> Result<(), NoMemory>
 {
     let mut buffer = Buffer::new();
     add_bytes(out, buffer.format(number).as_bytes())
+}
+
+/// Writes the bytes so that they end at `end`, and tells where they start.
+#[inline(always)]
+fn write_bytes(piece: &mut [u8; 48], bytes: &[u8], end: usize) -> usize
+    requires { (length bytes.now ≤ end) × (end ≤ 48) }
+    ensures start { result + length bytes.now ≡ end }
+    ensures written { drop result piece.new ≡ bytes.now ++ drop end piece.old }
+{
+    let start = end - bytes.len();
+    piece[start..end].copy_from_slice(bytes);
+    start
+}
+
+/// Adds a number in decimal digits, with bytes before it and bytes behind it, all at once.
+#[inline(always)]
+pub(crate) fn add_around(
+    out: &mut Vec<u8>,
+    front: &[u8],
+    number: u64,
+    back: &[u8],
+) -> Result<(), NoMemory>
+    requires { length front.now + length back.now ≤ 28 }
+    ensures { OnOk result
+        (out.new.items ≡ out.old.items ++ (front.now ++ decimal number ++ back.now)) }
+{
+    let mut piece = [0; 48];
+    let number_end = write_bytes(&mut piece, back, 48);
+    let front_end = write_digits(number, &mut piece, number_end);
+    let start = write_bytes(&mut piece, front, front_end);
+    add_bytes(out, &piece[start..])
 }
 
 fn hex_digit(value: u8) -> u8
@@ -111,11 +142,19 @@ pub(crate) fn add_quote(out: &mut Vec<u8>, bytes: &[u8]) -> Result<(), NoMemory>
     add_bytes(out, b"\"")
 }
 
+/// Adds `/` and a name, a short one all at once.
+#[tactic(auto, unfolding(crate::specs::Print::spelled))]
 fn add_spelled_name(out: &mut Vec<u8>, name: &Name) -> Result<(), NoMemory>
     ensures { OnOk result (out.new.items ≡ out.old.items ++ flat_map spelled (47 ∷ name.now)) }
 {
-    add_spelled(out, b'/')?;
-    add_all_spelled(out, name.as_slice())
+    let bytes = name.as_slice();
+    if bytes.len() < 16 {
+        let mut piece = [b'/'; 16];
+        piece[1..bytes.len() + 1].copy_from_slice(bytes);
+        return add_all_spelled(out, &piece[..bytes.len() + 1]);
+    }
+    add_bytes(out, b"/")?;
+    add_all_spelled(out, bytes)
 }
 
 /// Adds each name of a path with `/` before it, as it is spelled between quotation marks.
@@ -131,15 +170,24 @@ fn add_spelled_names(out: &mut Vec<u8>, path: &Path) -> Result<(), NoMemory>
     Ok(())
 }
 
+/// Adds the text of a path as it is spelled between quotation marks.
+pub(crate) fn add_spelled_path(out: &mut Vec<u8>, path: &Path) -> Result<(), NoMemory>
+    ensures { OnOk result
+        (out.new.items ≡ out.old.items ++ flat_map spelled (path_text path.now)) }
+{
+    if path.len() == 0 {
+        return add_spelled(out, b'/');
+    }
+    add_spelled_names(out, path)?;
+    Ok(())
+}
+
 /// Adds the text of a path between quotation marks.
+#[tactic(auto, unfolding(crate::specs::Print::quote))]
 pub fn add_quoted_path(out: &mut Vec<u8>, path: &Path) -> Result<(), NoMemory>
     ensures { OnOk result (out.new.items ≡ out.old.items ++ quote (path_text path.now)) }
 {
-    if path.len() == 0 {
-        return add_quote(out, b"/");
-    }
     add_bytes(out, b"\"")?;
-    add_spelled_names(out, path)?;
-    add_bytes(out, b"\"")?;
-    Ok(())
+    add_spelled_path(out, path)?;
+    add_bytes(out, b"\"")
 }
