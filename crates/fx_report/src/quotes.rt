@@ -1,4 +1,4 @@
-ghost use Rattle.std.specs.Prelude.{◌≡◌, ◌+◌, ◌<◌, ◌≤◌, ◌++◌, [], ◌∷◌, true, false, length, take, drop, OnOk};
+ghost use Rattle.std.specs.Prelude.{◌≡◌, ◌+◌, ◌<◌, ◌≤◌, ◌++◌, [], ◌∷◌, true, false, length, take, drop, IfSome, OnOk};
 ghost use Rattle.std.specs.Fmt.{decimal, digit_glyph};
 ghost use Rattle.std.specs.List.{flat_map};
 ghost use Rattle.fx_store.specs.Names.{path_text};
@@ -31,8 +31,13 @@ fn write_bytes(piece: &mut [u8; 48], bytes: &[u8], end: usize) -> usize
     ensures start { result + length bytes.now ≡ end }
     ensures written { drop result piece.new ≡ bytes.now ++ drop end piece.old }
 {
-    let start = end - bytes.len();
-    piece[start..end].copy_from_slice(bytes);
+    let mut start = end;
+    let mut left = bytes.len();
+    while left > 0 {
+        left -= 1;
+        start -= 1;
+        piece[start] = bytes[left];
+    }
     start
 }
 
@@ -142,19 +147,11 @@ pub(crate) fn add_quote(out: &mut Vec<u8>, bytes: &[u8]) -> Result<(), NoMemory>
     add_bytes(out, b"\"")
 }
 
-/// Adds `/` and a name, a short one all at once.
-#[tactic(auto, unfolding(crate::specs::Print::spelled))]
 fn add_spelled_name(out: &mut Vec<u8>, name: &Name) -> Result<(), NoMemory>
     ensures { OnOk result (out.new.items ≡ out.old.items ++ flat_map spelled (47 ∷ name.now)) }
 {
-    let bytes = name.as_slice();
-    if bytes.len() < 16 {
-        let mut piece = [b'/'; 16];
-        piece[1..bytes.len() + 1].copy_from_slice(bytes);
-        return add_all_spelled(out, &piece[..bytes.len() + 1]);
-    }
-    add_bytes(out, b"/")?;
-    add_all_spelled(out, bytes)
+    add_spelled(out, b'/')?;
+    add_all_spelled(out, name.as_slice())
 }
 
 /// Adds each name of a path with `/` before it, as it is spelled between quotation marks.
@@ -170,13 +167,51 @@ fn add_spelled_names(out: &mut Vec<u8>, path: &Path) -> Result<(), NoMemory>
     Ok(())
 }
 
-/// Adds the text of a path as it is spelled between quotation marks.
+/// Writes `/` and a name behind what a piece begins with, and tells where they end: `None` where there is no room for them, or
+/// where a byte of the name is not spelled as itself.
+fn write_name(piece: &mut [u8; 64], start: usize, name: &[u8]) -> Option<usize>
+    requires { start ≤ 64 }
+    ensures { IfSome result (λ end. (end ≤ 64)
+        × (take end piece.new ≡ take start piece.old ++ flat_map spelled (47 ∷ name.now))) }
+{
+    if name.len() >= 64 - start {
+        return None;
+    }
+    piece[start] = b'/';
+    for (i, byte) in name.iter().enumerate() {
+        if !is_plain(*byte) {
+            return None;
+        }
+        piece[start + 1 + i] = *byte;
+    }
+    Some(start + 1 + name.len())
+}
+
+/// Writes each name of a path with `/` before it, and tells where they end: `None` where there is no room for them, or where a
+/// byte of a name is not spelled as itself.
+fn write_names(piece: &mut [u8; 64], path: &Path) -> Option<usize>
+    ensures { IfSome result (λ end. (end ≤ 64)
+        × (take end piece.new ≡ flat_map spelled (flat_map (λ name. 47 ∷ name) path.now))) }
+{
+    let mut end = 0;
+    for name in path.iter() {
+        end = write_name(piece, end, name.as_slice())?;
+    }
+    Some(end)
+}
+
+/// Adds the text of a path as it is spelled between quotation marks, most often all at once.
 pub(crate) fn add_spelled_path(out: &mut Vec<u8>, path: &Path) -> Result<(), NoMemory>
     ensures { OnOk result
         (out.new.items ≡ out.old.items ++ flat_map spelled (path_text path.now)) }
 {
     if path.len() == 0 {
         return add_spelled(out, b'/');
+    }
+    let mut piece = [0; 64];
+    if let Some(end) = write_names(&mut piece, path) {
+        add_bytes(out, &piece[..end])?;
+        return Ok(());
     }
     add_spelled_names(out, path)?;
     Ok(())
