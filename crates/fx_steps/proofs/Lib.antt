@@ -1,6 +1,7 @@
 pub mod Prelude
 pub mod Arguments
 pub mod Turning
+pub mod Unfolding
 pub mod Told
 pub mod Telling
 pub mod Sessions

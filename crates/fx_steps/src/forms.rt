@@ -1,12 +1,27 @@
 //! The parts of a description of a form.
-ghost use Rattle.std.specs.Prelude.{◌≡◌, MatchOption};
+ghost use Rattle.std.specs.Prelude.{◌≡◌, ◌-◌, MatchOption};
 ghost use Rattle.std.specs.Option.{IfSome};
 ghost use Rattle.fx_spec.specs.Parts.{part_of};
 ghost use Rattle.fx_spec.specs.SpecTree.{SpecTree};
+ghost use Rattle.fx_spec.specs.Views.{spec_tree};
+ghost use Rattle.fx_spec.specs.Written.{part_tree};
 ghost use Rattle.fx_steps.specs.Parts.{IsNoPair, IsNoComp, IsNoFocus, IsNoOption, IsNoCall};
 
 use fx_expr::{Formula, Word};
-use fx_spec::{Exprs, Form, Params, Part};
+use fx_spec::{Exprs, Form, Params, Part, Spec};
+
+/// Another part of the same text, inside the same calls.
+fn within<'a>(around: &Part<'a>, spec: &'a Spec) -> Part<'a>
+    ensures part { part_of result
+        ≡ part_tree around.now.defs.now (64 - around.now.level) (spec_tree spec.now) }
+    ensures defs { result.defs.now ≡ around.now.defs.now }
+{
+    Part {
+        spec,
+        defs: around.defs,
+        level: around.level,
+    }
+}
 
 /// The name and the parts of a pair.
 pub fn pair_of<'a>(spec: &Part<'a>) -> Option<(&'a Word, Part<'a>, Part<'a>)>
@@ -15,10 +30,11 @@ pub fn pair_of<'a>(spec: &Part<'a>) -> Option<(&'a Word, Part<'a>, Part<'a>)>
     ensures defs { IfSome result (λ r. (r.1.defs.now ≡ spec.now.defs.now)
         × (r.2.defs.now ≡ spec.now.defs.now)) }
 {
-    match spec.form() {
-        Form::Pair(name, first, second) => Some((name, first, second)),
-        Form::File | Form::Dir | Form::Link | Form::Focus(_, _) | Form::Comp(_, _, _) => None,
-        Form::Opt(_) | Form::Pred(_) | Form::Call(_, _, _) | Form::Last(_) => None,
+    match spec.spec {
+        Spec::Pair(name, first, second) => Some((name, within(spec, first), within(spec, second))),
+        Spec::File | Spec::Dir | Spec::Link | Spec::Focus(_, _) | Spec::Comp(_, _, _) => None,
+        Spec::Opt(_) | Spec::Pred(_) => None,
+        Spec::Call(_, _) => None,
     }
 }
 
@@ -28,10 +44,11 @@ pub fn comp_of<'a>(spec: &Part<'a>) -> Option<(Part<'a>, &'a Word, &'a Formula)>
         part_of spec.now ≡ SpecTree.comp (part_of r.0) r.1.now r.2.now) }
     ensures defs { IfSome result (λ r. r.0.defs.now ≡ spec.now.defs.now) }
 {
-    match spec.form() {
-        Form::Comp(part, name, set) => Some((part, name, set)),
-        Form::File | Form::Dir | Form::Link | Form::Focus(_, _) | Form::Pair(_, _, _) => None,
-        Form::Opt(_) | Form::Pred(_) | Form::Call(_, _, _) | Form::Last(_) => None,
+    match spec.spec {
+        Spec::Comp(part, name, set) => Some((within(spec, part), name, set)),
+        Spec::File | Spec::Dir | Spec::Link | Spec::Focus(_, _) | Spec::Pair(_, _, _) => None,
+        Spec::Opt(_) | Spec::Pred(_) => None,
+        Spec::Call(_, _) => None,
     }
 }
 
@@ -41,10 +58,11 @@ pub(crate) fn focus_of<'a>(spec: &Part<'a>) -> Option<(&'a Formula, Part<'a>)>
         part_of spec.now ≡ SpecTree.focus r.0.now (part_of r.1)) }
     ensures defs { IfSome result (λ r. r.1.defs.now ≡ spec.now.defs.now) }
 {
-    match spec.form() {
-        Form::Focus(text, part) => Some((text, part)),
-        Form::File | Form::Dir | Form::Link | Form::Pair(_, _, _) | Form::Comp(_, _, _) => None,
-        Form::Opt(_) | Form::Pred(_) | Form::Call(_, _, _) | Form::Last(_) => None,
+    match spec.spec {
+        Spec::Focus(text, part) => Some((text, within(spec, part))),
+        Spec::File | Spec::Dir | Spec::Link | Spec::Pair(_, _, _) | Spec::Comp(_, _, _) => None,
+        Spec::Opt(_) | Spec::Pred(_) => None,
+        Spec::Call(_, _) => None,
     }
 }
 
@@ -54,10 +72,11 @@ pub(crate) fn option_of<'a>(spec: &Part<'a>) -> Option<Part<'a>>
         part_of spec.now ≡ SpecTree.opt (part_of part)) }
     ensures defs { IfSome result (λ part. part.defs.now ≡ spec.now.defs.now) }
 {
-    match spec.form() {
-        Form::Opt(part) => Some(part),
-        Form::File | Form::Dir | Form::Link | Form::Focus(_, _) | Form::Pair(_, _, _) => None,
-        Form::Comp(_, _, _) | Form::Pred(_) | Form::Call(_, _, _) | Form::Last(_) => None,
+    match spec.spec {
+        Spec::Opt(part) => Some(within(spec, part)),
+        Spec::File | Spec::Dir | Spec::Link | Spec::Focus(_, _) | Spec::Pair(_, _, _) => None,
+        Spec::Comp(_, _, _) | Spec::Pred(_) => None,
+        Spec::Call(_, _) => None,
     }
 }
 
