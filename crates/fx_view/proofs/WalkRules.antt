@@ -1,5 +1,5 @@
 -- What is left of the rule of resolution after each step of a walk.
-use Rattle.std.proofs.Common.{◌≡◌, ℕ, suc, ◌+◌, ◌<◌, Bool, true, false, cond, List, [], ◌∷◌, ◌++◌, map, length, get_or, take, drop, Option, Some, None, Ok, Err, refl, sym, ap, ◌∙◌, arith, length-append, nat_lt}
+use Rattle.std.proofs.Common.{◌≡◌, ℕ, suc, ◌+◌, ◌<◌, Bool, true, false, cond, List, [], ◌∷◌, ◌++◌, map, length, get_or, take, Option, Some, None, Ok, Err, refl, sym, ap, ◌∙◌, arith, length-append, nat_lt}
 use Rattle.std.proofs.lemmas.Bool.Decides.{nat_tests}
 use Rattle.std.proofs.lemmas.List.{take_more}
 use Rattle.fx_store.specs.declared.node.Node.{Node}
@@ -12,7 +12,6 @@ use Rattle.fx_store.specs.Rule.{Answer, Look}
 use Rattle.fx_store.specs.Resolve as rule
 use Rattle.fx_store.specs.Resolve.{◌/ₚ◌, is_full, walk, along, at_name, at_link, goes_along, start, components_of, missing, resolve}
 use Rattle.fx_view.specs.declared.walk.Walk.{Walk}
-use Rattle.fx_view.specs.Ways.{way}
 use Rattle.fx_view.specs.Walks.{rule_of, rule_named, rule_at, rule_linked}
 
 abbrev Path : Type 0
@@ -54,101 +53,96 @@ walk_full on follow here n rest e = at (is_full here) (sym (joined-full here n) 
     at true e = refl
     at false e = cc
 
--- nothing is taken from a list alone that has nothing
-pub none_left : {X : Type 0} (xs : List X) → xs ≡ drop 1 xs → xs ≡ []
-none_left [] e = refl
-none_left (x ∷ xs) e = absurd (omega (arith, ap length e))
-
 -- ---- from the root
 
-pub rule_of-start : (w : Walk) (path : Path) (follow : Bool) → w.here ≡ [] → way w.rest.items ≡ map rule.Normal path → w.links ≡ 40 → w.follow ≡ follow → rule_of w ≡ resolve path follow
+pub rule_of-start : (w : Walk) (path : Path) (follow : Bool) → w.here ≡ [] → w.rest ≡ map rule.Normal path → w.links ≡ 40 → w.follow ≡ follow → rule_of w ≡ resolve path follow
 unfolding rule_of resolve
 rule_of-start w path follow here rest links is =
-    ap (λ h. walk (along w.links w.follow) w.follow h (way w.rest.items)) here
+    ap (λ h. walk (along w.links w.follow) w.follow h w.rest) here
     ∙ (ap (λ r. walk (along w.links w.follow) w.follow [] r) rest
     ∙ (ap (λ k. walk (along k w.follow) w.follow [] (map rule.Normal path)) links ∙ ap (λ f. walk (along 40 f) f [] (map rule.Normal path)) is))
 
 -- ---- at the next component
 
 module _ (w v : Walk) (links : w.links ≡ v.links) (follow : w.follow ≡ v.follow) where
-  same_rule : (here : Path) (rest : List rule.Component) → v.here ≡ here → way v.rest.items ≡ rest → walk (along w.links w.follow) w.follow here rest ≡ rule_of v
+  same_rule : (here : Path) (rest : List rule.Component) → v.here ≡ here → v.rest ≡ rest → walk (along w.links w.follow) w.follow here rest ≡ rule_of v
   unfolding rule_of
   same_rule here rest h r =
       ap (λ k. walk (along k w.follow) w.follow here rest) links
       ∙ (ap (λ f. walk (along v.links f) f here rest) follow
       ∙ (ap (λ h. walk (along v.links v.follow) v.follow h rest) (sym h) ∙ ap (λ r. walk (along v.links v.follow) v.follow v.here r) (sym r)))
 
-  pub rule_of-stays : way w.rest.items ≡ rule.CurDir ∷ way v.rest.items → v.here ≡ w.here → rule_of w ≡ rule_of v
+  pub rule_of-stays : w.rest ≡ rule.CurDir ∷ v.rest → v.here ≡ w.here → rule_of w ≡ rule_of v
   unfolding rule_of
-  rule_of-stays e h = ap (walk (along w.links w.follow) w.follow w.here) e ∙ same_rule w.here (way v.rest.items) h refl
+  rule_of-stays e h = ap (walk (along w.links w.follow) w.follow w.here) e ∙ same_rule w.here v.rest h refl
 
-  pub rule_of-rises : way w.rest.items ≡ rule.ParentDir ∷ way v.rest.items → v.here ≡ rule.parent w.here → rule_of w ≡ rule_of v
+  pub rule_of-rises : w.rest ≡ rule.ParentDir ∷ v.rest → v.here ≡ rule.parent w.here → rule_of w ≡ rule_of v
   unfolding rule_of
-  rule_of-rises e h = ap (walk (along w.links w.follow) w.follow w.here) e ∙ same_rule (rule.parent w.here) (way v.rest.items) h refl
+  rule_of-rises e h = ap (walk (along w.links w.follow) w.follow w.here) e ∙ same_rule (rule.parent w.here) v.rest h refl
 
-  pub rule_of-named : (n : List ℕ) → way w.rest.items ≡ rule.Normal n ∷ way v.rest.items → v.here ≡ w.here → rule_of w ≡ rule_named v n
+  pub rule_of-named : (n : List ℕ) → w.rest ≡ rule.Normal n ∷ v.rest → v.here ≡ w.here → rule_of w ≡ rule_named v n
   unfolding rule_of rule_named
   rule_of-named n e h =
       ap (walk (along w.links w.follow) w.follow w.here) e
-      ∙ (ap (λ k. walk (along k w.follow) w.follow w.here (rule.Normal n ∷ way v.rest.items)) links
-      ∙ (ap (λ f. walk (along v.links f) f w.here (rule.Normal n ∷ way v.rest.items)) follow
-      ∙ ap (λ h. walk (along v.links v.follow) v.follow h (rule.Normal n ∷ way v.rest.items)) (sym h)))
+      ∙ (ap (λ k. walk (along k w.follow) w.follow w.here (rule.Normal n ∷ v.rest)) links
+      ∙ (ap (λ f. walk (along v.links f) f w.here (rule.Normal n ∷ v.rest)) follow
+      ∙ ap (λ h. walk (along v.links v.follow) v.follow h (rule.Normal n ∷ v.rest)) (sym h)))
 
-pub rule_of-ends : (w : Walk) (here : Path) → way w.rest.items ≡ [] → here ≡ w.here → rule_of w ≡ Answer (At here)
+pub rule_of-ends : (w : Walk) (here : Path) → w.rest ≡ [] → here ≡ w.here → rule_of w ≡ Answer (At here)
 unfolding rule_of
 rule_of-ends w here e h = ap (walk (along w.links w.follow) w.follow w.here) e ∙ ap (λ h. Answer (At h)) (sym h)
 
 pub rule_named-looks : (w : Walk) (n : List ℕ) (path : Path) → joined w.here n ≡ Ok path → rule_named w n ≡ Look path (rule_at w n)
 unfolding rule_named rule_at
-rule_named-looks w n path e = walk_looks (along w.links w.follow) w.follow w.here n (way w.rest.items) path e
+rule_named-looks w n path e = walk_looks (along w.links w.follow) w.follow w.here n w.rest path e
 
-pub rule_named-full : (w : Walk) (n : List ℕ) (l : Landing) → joined w.here n ≡ Err TooDeep → l ≡ missing w.here n (way w.rest.items) → rule_named w n ≡ Answer l
+pub rule_named-full : (w : Walk) (n : List ℕ) (l : Landing) → joined w.here n ≡ Err TooDeep → l ≡ missing w.here n w.rest → rule_named w n ≡ Answer l
 unfolding rule_named
-rule_named-full w n l e is = walk_full (along w.links w.follow) w.follow w.here n (way w.rest.items) e ∙ ap (λ l. Answer l) (sym is)
+rule_named-full w n l e is = walk_full (along w.links w.follow) w.follow w.here n w.rest e ∙ ap (λ l. Answer l) (sym is)
 
 -- ---- after a look
 
-pub rule_at-none : (w : Walk) (n : List ℕ) (o : Option Node) (l : Landing) → o ≡ None → l ≡ missing w.here n (way w.rest.items) → rule_at w n o ≡ Answer l
+pub rule_at-none : (w : Walk) (n : List ℕ) (o : Option Node) (l : Landing) → o ≡ None → l ≡ missing w.here n w.rest → rule_at w n o ≡ Answer l
 unfolding rule_at
-rule_at-none w n o l e is = ap (at_name w.follow w.here n (way w.rest.items) (walk (along w.links w.follow) w.follow (w.here /ₚ n) (way w.rest.items)) (along w.links w.follow)) e ∙ ap (λ l. Answer l) (sym is)
+rule_at-none w n o l e is = ap (at_name w.follow w.here n w.rest (walk (along w.links w.follow) w.follow (w.here /ₚ n) w.rest) (along w.links w.follow)) e ∙ ap (λ l. Answer l) (sym is)
 
 module _ (w : Walk) (n : List ℕ) (path : Path) (is : path ≡ w.here /ₚ n) (o : Option Node) where
-  pub rule_at-file : (bytes : List ℕ) (exec : Bool) (l : Landing) → o ≡ Some (File bytes exec) → l ≡ rule.at_file path (way w.rest.items) → rule_at w n o ≡ Answer l
+  pub rule_at-file : (bytes : List ℕ) (exec : Bool) (l : Landing) → o ≡ Some (File bytes exec) → l ≡ rule.at_file path w.rest → rule_at w n o ≡ Answer l
   unfolding rule_at
   rule_at-file bytes exec l e lands =
-      ap (at_name w.follow w.here n (way w.rest.items) (walk (along w.links w.follow) w.follow (w.here /ₚ n) (way w.rest.items)) (along w.links w.follow)) e
-      ∙ (ap (λ p. Answer (rule.at_file p (way w.rest.items))) (sym is) ∙ ap (λ l. Answer l) (sym lands))
+      ap (at_name w.follow w.here n w.rest (walk (along w.links w.follow) w.follow (w.here /ₚ n) w.rest) (along w.links w.follow)) e
+      ∙ (ap (λ p. Answer (rule.at_file p w.rest)) (sym is) ∙ ap (λ l. Answer l) (sym lands))
 
-  pub rule_at-dir : (names : List (List ℕ)) (v : Walk) → o ≡ Some (Dir names) → v.here ≡ path → v.rest.items ≡ w.rest.items → w.links ≡ v.links → w.follow ≡ v.follow → rule_at w n o ≡ rule_of v
+  pub rule_at-dir : (names : List (List ℕ)) (v : Walk) → o ≡ Some (Dir names) → v.here ≡ path → v.rest ≡ w.rest → w.links ≡ v.links → w.follow ≡ v.follow → rule_at w n o ≡ rule_of v
   unfolding rule_at
   rule_at-dir names v e here rest links follow =
-      ap (at_name w.follow w.here n (way w.rest.items) (walk (along w.links w.follow) w.follow (w.here /ₚ n) (way w.rest.items)) (along w.links w.follow)) e
-      ∙ same_rule w v links follow (w.here /ₚ n) (way w.rest.items) (here ∙ is) (ap way rest)
+      ap (at_name w.follow w.here n w.rest (walk (along w.links w.follow) w.follow (w.here /ₚ n) w.rest) (along w.links w.follow)) e
+      ∙ same_rule w v links follow (w.here /ₚ n) w.rest (here ∙ is) rest
 
   pub rule_at-link : (text : List ℕ) → o ≡ Some (Link text) → rule_at w n o ≡ rule_linked w path text
   unfolding rule_at rule_linked
   rule_at-link text e =
-      ap (at_name w.follow w.here n (way w.rest.items) (walk (along w.links w.follow) w.follow (w.here /ₚ n) (way w.rest.items)) (along w.links w.follow)) e
-      ∙ ap (λ p. at_link (goes_along w.follow (way w.rest.items)) p (along w.links w.follow (start w.here text) (components_of text ++ way w.rest.items))) (sym is)
+      ap (at_name w.follow w.here n w.rest (walk (along w.links w.follow) w.follow (w.here /ₚ n) w.rest) (along w.links w.follow)) e
+      ∙ ap (λ p. at_link (goes_along w.follow w.rest) p (along w.links w.follow (start w.here text) (components_of text ++ w.rest))) (sym is)
 
 -- ---- at a link
 
 module _ (w : Walk) (path : Path) (text : List ℕ) where
-  pub rule_linked-lands : goes_along w.follow (way w.rest.items) ≡ false → rule_linked w path text ≡ Answer (At path)
+  pub rule_linked-lands : goes_along w.follow w.rest ≡ false → rule_linked w path text ≡ Answer (At path)
   unfolding rule_linked
-  rule_linked-lands e = ap (λ b. at_link b path (along w.links w.follow (start w.here text) (components_of text ++ way w.rest.items))) e
+  rule_linked-lands e = ap (λ b. at_link b path (along w.links w.follow (start w.here text) (components_of text ++ w.rest))) e
 
-  pub rule_linked-tires : goes_along w.follow (way w.rest.items) ≡ true → w.links ≡ 0 → rule_linked w path text ≡ Answer TooManyLinks
+  pub rule_linked-tires : goes_along w.follow w.rest ≡ true → w.links ≡ 0 → rule_linked w path text ≡ Answer TooManyLinks
   unfolding rule_linked
   rule_linked-tires e z =
-      ap (λ b. at_link b path (along w.links w.follow (start w.here text) (components_of text ++ way w.rest.items))) e
-      ∙ ap (λ k. along k w.follow (start w.here text) (components_of text ++ way w.rest.items)) z
+      ap (λ b. at_link b path (along w.links w.follow (start w.here text) (components_of text ++ w.rest))) e
+      ∙ ap (λ k. along k w.follow (start w.here text) (components_of text ++ w.rest)) z
 
-  pub rule_linked-goes : (v : Walk) → goes_along w.follow (way w.rest.items) ≡ true → w.links ≡ suc v.links → w.follow ≡ v.follow → v.here ≡ start w.here text → way v.rest.items ≡ components_of text ++ way w.rest.items
+  pub rule_linked-goes : (v : Walk) → goes_along w.follow w.rest ≡ true → w.links ≡ suc v.links → w.follow ≡ v.follow → v.here ≡ start w.here text → v.rest ≡ components_of text ++ w.rest
       → rule_linked w path text ≡ rule_of v
   unfolding rule_linked rule_of
   rule_linked-goes v e links follow here rest =
-      ap (λ b. at_link b path (along w.links w.follow (start w.here text) (components_of text ++ way w.rest.items))) e
-      ∙ (ap (λ k. along k w.follow (start w.here text) (components_of text ++ way w.rest.items)) links
-      ∙ (ap (λ f. along (suc v.links) f (start w.here text) (components_of text ++ way w.rest.items)) follow
-      ∙ (ap (λ h. along (suc v.links) v.follow h (components_of text ++ way w.rest.items)) (sym here) ∙ ap (λ r. along (suc v.links) v.follow v.here r) (sym rest))))
+      ap (λ b. at_link b path (along w.links w.follow (start w.here text) (components_of text ++ w.rest))) e
+      ∙ (ap (λ k. along k w.follow (start w.here text) (components_of text ++ w.rest)) links
+      ∙ (ap (λ f. along (suc v.links) f (start w.here text) (components_of text ++ w.rest)) follow
+      ∙ (ap (λ h. along (suc v.links) v.follow h (components_of text ++ w.rest)) (sym here) ∙ ap (λ r. along (suc v.links) v.follow v.here r) (sym rest))))

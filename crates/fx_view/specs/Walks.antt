@@ -7,25 +7,24 @@ use Rattle.fx_store.specs.Resolve.{Normal, ◌/ₚ◌, at_name, at_link, goes_al
 use Rattle.fx_view.specs.declared.walk.Walk.{Walk}
 use Rattle.fx_view.specs.declared.walk.Next.{Next}
 use Rattle.fx_view.specs.declared.walk.Next.TheVariants.{Lands, Goes, Looks}
-use Rattle.fx_view.specs.Ways.{way}
 
 -- what is left of a walk
 unfoldable pub rule_of : Walk → Ask Landing
-rule_of w = walk (along w.links w.follow) w.follow w.here (way w.rest.items)
+rule_of w = walk (along w.links w.follow) w.follow w.here w.rest
 
 -- what is left of it once it knows what is at the entry of this name
 unfoldable pub rule_at : Walk → List ℕ → Option Node → Ask Landing
 rule_at w name =
-    at_name w.follow w.here name (way w.rest.items) (walk (along w.links w.follow) w.follow (w.here /ₚ name) (way w.rest.items)) (along w.links w.follow)
+    at_name w.follow w.here name w.rest (walk (along w.links w.follow) w.follow (w.here /ₚ name) w.rest) (along w.links w.follow)
 
 -- what is left of it at a name, whose entry comes next
 unfoldable pub rule_named : Walk → List ℕ → Ask Landing
-rule_named w name = walk (along w.links w.follow) w.follow w.here (Normal name ∷ way w.rest.items)
+rule_named w name = walk (along w.links w.follow) w.follow w.here (Normal name ∷ w.rest)
 
 -- what is left of it at a link with this text
 unfoldable pub rule_linked : Walk → List (List ℕ) → List ℕ → Ask Landing
 rule_linked w path text =
-    at_link (goes_along w.follow (way w.rest.items)) path (along w.links w.follow (start w.here text) (components_of text ++ way w.rest.items))
+    at_link (goes_along w.follow w.rest) path (along w.links w.follow (start w.here text) (components_of text ++ w.rest))
 
 -- what is left of it after a component was taken
 abbrev pub rule_then : Walk → Next → Ask Landing
@@ -40,7 +39,7 @@ rule_after w (Some l) = Answer l
 
 -- the components that are left, where each link that may be followed counts as many as it can bring
 abbrev pub left : Walk → ℕ
-left w = 65 * w.links + length w.rest.items
+left w = 65 * w.links + length w.rest
 
 -- a walk that goes on has fewer components left, and looks at an entry of the directory where it is
 abbrev pub GoesOn : Walk → Walk → Next → Type 0

@@ -1,5 +1,5 @@
 //! Components of ways: of paths, and of link texts.
-ghost use Rattle.std.specs.Prelude.{◌≡◌, ◌≤◌, true, ◌∷◌, length, map, IfOk};
+ghost use Rattle.std.specs.Prelude.{◌≡◌, ◌==◌, ◌≤◌, true, ◌++◌, ◌∷◌, [], length, map, IfOk, OnOk, MatchOption};
 ghost use Rattle.std.specs.List.{list_all, slice_split};
 ghost use Rattle.fx_store.specs.Names.{is_name, is_component, is_absolute, after_slash, is_slash};
 ghost use Rattle.fx_store.specs.Resolve.{components_of, component_of, names_only};
@@ -10,6 +10,7 @@ use fx_base::NoMemory;
 use fx_store::{LinkText, Name, NameList, Path, PathFault};
 use std::alloc::Global;
 use std::collections::VecDeque;
+use std::marker::Model;
 
 /// A component of a way: the directory itself, the one above, or an entry.
 #[derive(Drop)]
@@ -19,15 +20,93 @@ pub(crate) enum Component {
     Normal(Name),
 }
 
-/// The names of a path, one after another.
-pub(crate) fn names_of(alloc: Global, path: &Path) -> Result<VecDeque<Component>, NoMemory>
-    ensures { IfOk result (λ q. way q.items ≡ map rule.Normal path.now) }
-{
-    let mut names = VecDeque::with_capacity(alloc, path.len() as usize)?;
-    for name in path.iter() {
-        names.push_back(Component::Normal(name.copy(alloc)?))?;
+/// The components that are left of a way: those of links, and then names of a path. Contracts see them in order.
+#[derive(Drop)]
+pub(crate) struct Way<'a> {
+    parts: VecDeque<Component>,
+    names: &'a [Name],
+}
+
+impl<'a> Model for Way<'a> {
+    ghost use Rattle.std.specs.Prelude.{List, ◌++◌, map};
+    ghost use Rattle.fx_store.specs.Resolve as rule;
+    ghost use Rattle.fx_view.specs.Ways.{way};
+
+    ghost Value = { List rule.Component };
+
+    ghost view = { λ w. way w.parts.items ++ map rule.Normal w.names.now };
+}
+
+impl<'a> Way<'a> {
+    /// The names of a path, one after another.
+    pub(crate) fn along(alloc: Global, path: &'a Path) -> Way<'a>
+        ensures { result ≡ map rule.Normal path.now }
+    {
+        Way {
+            parts: VecDeque::new(alloc),
+            names: path.iter().as_slice(),
+        }
     }
-    Ok(names)
+
+    /// Whether nothing is left.
+    pub(crate) fn is_empty(&self) -> bool
+        ensures { result ≡ (length self.now == 0) }
+    {
+        self.parts.is_empty() && self.names.is_empty()
+    }
+
+    /// Takes the first component; None exactly where nothing is left.
+    pub(crate) fn take_first(&mut self, alloc: Global) -> Result<Option<Component>, NoMemory>
+        ensures { IfOk result (λ first. MatchOption first ((self.old ≡ []) × (self.new ≡ []))
+            (λ component. self.old ≡ meant component ∷ self.new)) }
+    {
+        if let Some(component) = self.parts.pop_front() {
+            return Ok(Some(component));
+        }
+        match self.names.split_first() {
+            Some((name, rest)) => {
+                let name = name.copy(alloc)?;
+                self.names = rest;
+                Ok(Some(Component::Normal(name)))
+            }
+            None => Ok(None),
+        }
+    }
+
+    /// Puts components before those that are left.
+    pub(crate) fn put_first(&mut self, parts: VecDeque<Component>) -> Result<(), NoMemory>
+        ensures { OnOk result (self.new ≡ way parts.items ++ self.old) }
+    {
+        let mut parts = parts;
+        parts.append(&mut self.parts)?;
+        self.parts = parts;
+        Ok(())
+    }
+
+    /// The names that are left, from a first one on, where names alone are left.
+    pub(crate) fn names_only(
+        &self,
+        alloc: Global,
+        first: Name,
+    ) -> Result<Option<NameList>, NoMemory>
+        ensures { IfOk result (λ names. names ≡ names_only (rule.Normal first ∷ self.now)) }
+    {
+        match names_only(alloc, first, &self.parts)? {
+            Some(names) => Ok(Some(with_names(alloc, names, self.names)?)),
+            None => Ok(None),
+        }
+    }
+}
+
+/// The names, and then these.
+fn with_names(alloc: Global, names: NameList, more: &[Name]) -> Result<NameList, NoMemory>
+    ensures { IfOk result (λ all. all ≡ names ++ more.now) }
+{
+    let mut all = names;
+    for name in more.iter() {
+        all.add(alloc, name.copy(alloc)?)?;
+    }
+    Ok(all)
 }
 
 /// The components of a link text, at most 64.
@@ -105,7 +184,7 @@ pub(crate) fn is_absolute(text: &LinkText) -> bool
 }
 
 /// The names of a way that has names alone, from a first one on.
-pub(crate) fn names_only(
+fn names_only(
     alloc: Global,
     first: Name,
     rest: &VecDeque<Component>,

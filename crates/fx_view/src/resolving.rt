@@ -27,7 +27,7 @@ pub fn resolve<R: Reader>(
     ensures follows { Consults R.meaning (λ l. l) (own_at overlay.now) reader.old reader.new
         (rule.resolve path.now follow) result }
 {
-    let mut walk = start(alloc, path, follow)?;
+    let mut walk = start(alloc, path, follow);
     loop {
         match step(alloc, reader, overlay, &mut walk)? {
             None => {}
@@ -41,7 +41,7 @@ fn step<R: Reader>(
     alloc: Global,
     reader: &mut R,
     overlay: &Overlay,
-    walk: &mut Walk,
+    walk: &mut Walk<'_>,
 ) -> Result<Option<Landing>, Stop>
     ensures rule { (n : ℕ) → StepsFrom R.meaning (own_at overlay.now) (reader.old, n)
         (reader.new, n) (rule_of walk.old) walk.new result }
@@ -59,7 +59,7 @@ fn look_into<R: Reader>(
     alloc: Global,
     reader: &mut R,
     overlay: &Overlay,
-    walk: &mut Walk,
+    walk: &mut Walk<'_>,
     name: Name,
     path: Path,
 ) -> Result<Option<Landing>, Stop>

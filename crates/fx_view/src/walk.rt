@@ -2,23 +2,21 @@
 ghost use Rattle.std.specs.Prelude.{◌≡◌, ◌≤◌, IfOk, IfNone};
 ghost use Rattle.fx_store.specs.Resolve as rule;
 ghost use Rattle.fx_store.specs.Resolve.{◌/ₚ◌};
-ghost use Rattle.fx_view.specs.Ways.{way};
 ghost use Rattle.fx_view.specs.Walks.{rule_of, rule_named, rule_at, rule_linked, rule_then, rule_after, left, GoesOn, LooksAt};
 
-use crate::component::{Component, components, is_absolute, names_of, names_only};
+use crate::component::{Component, Way, components, is_absolute};
 use fx_base::NoMemory;
 use fx_store::{Landing, LinkText, Name, Node, Path, PathFault};
 use std::alloc::Global;
-use std::collections::VecDeque;
 use std::mem;
 
 /// The most links that are followed.
 const MAX_LINKS: u32 = 40;
 
 #[derive(Drop)]
-pub(crate) struct Walk {
+pub(crate) struct Walk<'a> {
     here: Path,
-    rest: VecDeque<Component>,
+    rest: Way<'a>,
     links: u32,
     follow: bool,
 }
@@ -33,23 +31,24 @@ pub(crate) enum Next {
 }
 
 /// The walk of a path from the root.
-pub(crate) fn start(alloc: Global, path: &Path, follow: bool) -> Result<Walk, NoMemory>
-    ensures { IfOk result (λ walk. rule_of walk ≡ rule.resolve path.now follow) }
+pub(crate) fn start<'a>(alloc: Global, path: &'a Path, follow: bool) -> Walk<'a>
+    ensures { rule_of result ≡ rule.resolve path.now follow }
 {
-    Ok(Walk {
+    Walk {
         here: Path::root(alloc),
-        rest: names_of(alloc, path)?,
+        rest: Way::along(alloc, path),
         links: MAX_LINKS,
         follow,
-    })
+    }
 }
 
 /// Takes the next component.
-pub(crate) fn advance(alloc: Global, walk: &mut Walk) -> Result<Next, NoMemory>
+pub(crate) fn advance(alloc: Global, walk: &mut Walk<'_>) -> Result<Next, NoMemory>
     ensures rule { IfOk result (λ next. rule_of walk.old ≡ rule_then walk.new next) }
     ensures goes_on { IfOk result (GoesOn walk.old walk.new) }
 {
-    match walk.rest.pop_front() {
+    let first = walk.rest.take_first(alloc)?;
+    match first {
         None => Ok(Next::Lands(Landing::At(take(alloc, &mut walk.here)))),
         Some(Component::CurDir) => Ok(Next::Goes),
         Some(Component::ParentDir) => {
@@ -68,7 +67,7 @@ fn take(alloc: Global, here: &mut Path) -> Path
 }
 
 /// How a walk goes on at a name: it looks at that entry, unless its path would have more than 64 names.
-fn enter(alloc: Global, walk: &Walk, name: Name) -> Result<Next, NoMemory>
+fn enter(alloc: Global, walk: &Walk<'_>, name: Name) -> Result<Next, NoMemory>
     ensures rule { IfOk result (λ next. rule_named walk.now name ≡ rule_then walk.now next) }
     ensures looks { IfOk result (LooksAt walk.now name) }
 {
@@ -84,15 +83,10 @@ fn enter(alloc: Global, walk: &Walk, name: Name) -> Result<Next, NoMemory>
 }
 
 /// The landing where the directory has no entry of a name.
-fn missing(
-    alloc: Global,
-    here: Path,
-    name: Name,
-    rest: &VecDeque<Component>,
-) -> Result<Landing, NoMemory>
-    ensures { IfOk result (λ l. l ≡ rule.missing here name (way rest.now.items)) }
+fn missing(alloc: Global, here: Path, name: Name, rest: &Way<'_>) -> Result<Landing, NoMemory>
+    ensures { IfOk result (λ l. l ≡ rule.missing here name rest.now) }
 {
-    match names_only(alloc, name, rest)? {
+    match rest.names_only(alloc, name)? {
         Some(names) => Ok(Landing::Absent(here, names)),
         None => Ok(Landing::Blocked(here)),
     }
@@ -101,7 +95,7 @@ fn missing(
 /// Goes on by what is at the entry that was looked at, or lands.
 pub(crate) fn arrive(
     alloc: Global,
-    walk: &mut Walk,
+    walk: &mut Walk<'_>,
     name: Name,
     path: Path,
     node: Option<Node>,
@@ -129,8 +123,8 @@ pub(crate) fn arrive(
     }
 }
 
-fn at_file(walk: &Walk, path: Path) -> Landing
-    ensures { result ≡ rule.at_file path (way walk.now.rest.items) }
+fn at_file(walk: &Walk<'_>, path: Path) -> Landing
+    ensures { result ≡ rule.at_file path walk.now.rest }
 {
     if walk.rest.is_empty() {
         Landing::At(path)
@@ -141,7 +135,7 @@ fn at_file(walk: &Walk, path: Path) -> Landing
 
 fn at_link(
     alloc: Global,
-    walk: &mut Walk,
+    walk: &mut Walk<'_>,
     path: Path,
     text: LinkText,
 ) -> Result<Option<Landing>, NoMemory>
@@ -156,17 +150,16 @@ fn at_link(
         return Ok(Some(Landing::TooManyLinks));
     }
     walk.links -= 1;
-    let mut rest = components(alloc, &text)?;
-    rest.append(&mut walk.rest)?;
-    walk.rest = rest;
+    let parts = components(alloc, &text)?;
+    walk.rest.put_first(parts)?;
     if is_absolute(&text) {
         walk.here = Path::root(alloc);
     }
     Ok(None)
 }
 
-fn goes_along(walk: &Walk) -> bool
-    ensures { result ≡ rule.goes_along walk.now.follow (way walk.now.rest.items) }
+fn goes_along(walk: &Walk<'_>) -> bool
+    ensures { result ≡ rule.goes_along walk.now.follow walk.now.rest }
 {
     walk.follow || !walk.rest.is_empty()
 }

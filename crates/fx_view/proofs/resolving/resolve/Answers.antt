@@ -7,7 +7,7 @@ use Rattle.fx_view.proofs.resolving.resolve.Goals as goal
 
 pub returns-in_err-step : goal.returns-in_err-step
 returns-in_err-step g c = record {
-  follows = λ n. rw (err_of c.from_residual-in_err-step.result c.in_err-step.field-0.0 c.from_residual-in_err-step.ensures.1) (c.loop-walk.invariant n (c.step.new.reader, n) (Err c.in_err-step.field-0.0) (c.in_err-step.ensures.rule n));
+  follows = λ n. rw (err_of c.from_residual.result c.in_err-step.field-0.0 c.from_residual.ensures.1) (c.loop-walk.invariant n (c.step.new.reader, n) (Err c.in_err-step.field-0.0) (c.in_err-step.ensures.rule n));
 }
 
 pub returns-in-Some : goal.returns-in-Some

@@ -5,13 +5,12 @@ use Rattle.fx_store.specs.declared.node.Node.TheVariants.{Link}
 use Rattle.fx_store.specs.Resolve.{missing}
 use Rattle.fx_store.specs.Rule.{Ask}
 use Rattle.fx_view.specs.Walks.{rule_after}
-use Rattle.fx_view.specs.Ways.{way}
 use Rattle.fx_view.proofs.WalkRules.{rule_at-none, rule_at-file, rule_at-dir, rule_at-link}
 use Rattle.fx_view.proofs.walk.arrive.Goals as goal
 
 pub returns-in-None-clause-rule : goal.returns-in-None-clause-rule
 returns-in-None-clause-rule c =
-    rule_at-none c.args.walk.now c.args.name c.args.node _ c.in-None.is (c.in_ok-missing-in-None.ensures ∙ ap (λ here. missing here c.args.name (way c.args.walk.now.rest.items)) c.take-here.ensures)
+    rule_at-none c.args.walk.now c.args.name c.args.node _ c.in-None.is (c.in_ok-missing-in-None.ensures ∙ ap (λ here. missing here c.args.name c.args.walk.now.rest) c.take-here.ensures)
 
 pub returns-in-Some-File-clause-rule : goal.returns-in-Some-File-clause-rule
 returns-in-Some-File-clause-rule c =

@@ -1,6 +1,4 @@
 use Rattle.std.proofs.Common.{◌≡◌, Bool, [], ◌++◌, cond, suc, ◌-◌, sym, ap, ◌∙◌, refl, arith}
-use Rattle.std.proofs.lemmas.List.{map-append}
-use Rattle.fx_view.specs.Ways.{meant, way}
 use Rattle.fx_view.proofs.WalkRules.{rule_linked-lands, rule_linked-tires, rule_linked-goes}
 use Rattle.fx_view.proofs.walk.at_link.Goals as goal
 use Rattle.fx_view.proofs.walk.at_link.Goals.{then-is_absolute, else-is_absolute}
@@ -14,7 +12,7 @@ returns-then-walk-eq0-clause-rule c = rule_linked-tires c.args.walk.now c.args.p
 pub returns-clause-rule : goal.returns-clause-rule
 returns-clause-rule c =
     let links : c.args.walk.now.links ≡ suc (c.args.walk.now.links - 1) = omega arith in
-    let rest = ap way c.in_ok-append.ensures.items ∙ (map-append meant c.in_ok-rest.rest.items c.args.walk.now.rest.items ∙ ap (λ parts. parts ++ way c.args.walk.now.rest.items) c.in_ok-rest.ensures.way) in
+    let rest = c.in_ok-put_first.ensures ∙ ap (λ parts. parts ++ c.args.walk.now.rest) c.in_ok-parts.ensures.way in
     let goes = sym c.goes_along.ensures ∙ c.if-not-goes_along.false in
     let absolute = λ (b : Bool). cond b [] c.args.walk.now.here in
     elim c.if-is_absolute.branch [
