@@ -89,10 +89,6 @@ module _ {K X : Type 0} (is : K → Bool) where
   pub lookup_neither : (es ys : List (K × X)) → lookup is es ≡ None → None ≡ lookup is ys → None ≡ lookup is (es ++ ys)
   lookup_neither es ys none other = other ∙ sym (lookup_rest es ys none)
 
-  pub lookup_none : (es ys : List (K × X)) → lookup is es ≡ None → length ys ≡ 0 → None ≡ lookup is (es ++ ys)
-  lookup_none es [] none empty = sym (lookup_rest es [] none)
-  lookup_none es (y ∷ ys) none empty = absurd (omega arith)
-
   -- ---- what the map says of a place
 
   pub place_some : (es : List (K × X)) (i : ℕ) → position is (keys_of es) ≡ Some i → position_or_len is (keys_of es) ≡ i

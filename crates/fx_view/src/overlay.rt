@@ -73,11 +73,11 @@ impl Overlay {
     }
 
     /// Sets what stands at a path from now on, in place of an earlier own change there. A refusal changes nothing.
-    pub fn put(&mut self, _alloc: Global, path: Path, node: Option<Node>) -> Result<(), NoMemory>
+    pub fn put(&mut self, alloc: Global, path: Path, node: Option<Node>) -> Result<(), NoMemory>
         ensures ok { OnOk result (self.new ≡ put_own self.old path node) }
         ensures err { OnErr result (self.new ≡ self.old) }
     {
-        self.table.insert(path, node)?;
+        self.table.insert(alloc, path, node)?;
         Ok(())
     }
 

@@ -94,7 +94,7 @@ impl Reads {
     /// Adds what was read at a path that is new. A refusal changes nothing.
     pub fn add(
         &mut self,
-        _alloc: Global,
+        alloc: Global,
         path: Path,
         node: Option<Node>,
         position: u64,
@@ -103,7 +103,7 @@ impl Reads {
         ensures ok { OnOk result (self.new ≡ self.old ++ (path, (node, position)) ∷ []) }
         ensures err { OnErr result (self.new ≡ self.old) }
     {
-        self.table.push(path, (node, position))?;
+        self.table.push(alloc, path, (node, position))?;
         Ok(())
     }
 
