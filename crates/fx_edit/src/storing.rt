@@ -62,13 +62,33 @@ fn stored<R: Reader, L: Ledger>(
         (edit.store_at (tree_of value.now) (place_tree place.now)) result }
 {
     let none = Names::new(session.alloc);
-    let likely = likely_names(session.reader.reads(), &session.own, place.path, &none);
+    let likely = likely_names(
+        value,
+        session.reader.reads(),
+        &session.own,
+        place.path,
+        &none,
+    );
     let node = stored_node(session.alloc, &place.part(), value, likely)?;
     store_node(session, place.path, is_flag(value), node)
 }
 
-/// The names of a directory at a path when it was last changed or looked at, for which no look is needed; or else none.
+/// Where the value is a set: the names of a directory at a path when it was last changed or looked at, for which no look is
+/// needed; or else none.
 fn likely_names<'a>(
+    value: &Value,
+    reads: &'a Reads,
+    overlay: &'a Overlay,
+    path: &Path,
+    none: &'a Names,
+) -> &'a Names {
+    match value {
+        Value::Names(_) => known_names(reads, overlay, path, none),
+        _ => none,
+    }
+}
+
+fn known_names<'a>(
     reads: &'a Reads,
     overlay: &'a Overlay,
     path: &Path,
