@@ -1,4 +1,4 @@
-ghost use Rattle.std.specs.Prelude.{◌≡◌, ◌++◌, [], ◌∷◌, OnOk, OnErr, length, slice_get, map};
+ghost use Rattle.std.specs.Prelude.{◌≡◌, ◌++◌, [], ◌∷◌, IfOk, OnOk, OnErr, length, slice_get, map};
 ghost use Rattle.std.specs.Slice.Iter.{iter_rest};
 ghost use Rattle.std.specs.Option.{option_map};
 ghost use Rattle.fx_spec.specs.Views.{command_tree};
@@ -81,6 +81,25 @@ impl Commands {
         Commands {
             items: Vec::new(alloc),
         }
+    }
+
+    /// No commands yet, with room for so many.
+    pub fn with_room(alloc: Global, room: usize) -> Result<Commands, NoMemory>
+        ensures { IfOk result (λ commands. commands ≡ []) }
+    {
+        Ok(Commands {
+            items: Vec::with_capacity(alloc, room)?,
+        })
+    }
+
+    /// The same commands, in exactly the room that they need.
+    pub fn fitted(self, alloc: Global) -> Result<Commands, NoMemory>
+        ensures { IfOk result (λ commands. commands ≡ self) }
+    {
+        let Commands { mut items } = self;
+        let mut exact = Vec::with_capacity(alloc, items.len())?;
+        exact.append(&mut items)?;
+        Ok(Commands { items: exact })
     }
 
     /// The number of commands.

@@ -17,6 +17,9 @@ use fx_parse::{Sign, Stop, behind, closed, first_of, name_at};
 use fx_spec::{Command, Commands};
 use std::alloc::Global;
 
+/// For so many commands a block has room from the start, while it is read.
+const ROOM: usize = 8;
+
 /// Adds the command at the front, and gives what follows it. A refusal leaves the list.
 #[cycle(command)]
 #[tactic(auto, unfolding(crate::specs::Scripts::Reader::added_at))]
@@ -40,11 +43,11 @@ fn many_at(alloc: Global, left: u32, tokens: &[Spanned]) -> Result<(Commands, &[
     ensures { Gives (λ x. (x.0, kinds x.1.now)) result
         (many_at (read_command left) (kinds tokens.now)) }
 {
-    let mut commands = Commands::new(alloc);
+    let mut commands = Commands::with_room(alloc, ROOM)?;
     let mut rest = tokens;
     for _i in 0..tokens.len() {
         if let Some(behind) = closed(rest, Sign::RightBrace) {
-            return Ok((commands, behind));
+            return Ok((commands.fitted(alloc)?, behind));
         }
         rest = added_at(alloc, left, &mut commands, rest)?;
     }

@@ -1,4 +1,4 @@
-use Rattle.std.proofs.Common.{◌≡◌, ◌+◌, ◌-◌, suc, Err, None, Some, length, sym, ap, ◌∙◌, subst, arith}
+use Rattle.std.proofs.Common.{◌≡◌, ◌+◌, ◌-◌, suc, Ok, Err, None, Some, length, sym, ap, ◌∙◌, subst, arith}
 use Rattle.std.specs.Option.{option_map}
 use Rattle.std.proofs.lemmas.List.{length-map}
 use Rattle.fx_base.proofs.Errors.{err_of}
@@ -29,19 +29,19 @@ command_at-returns t c =
 pub many_at-loop-i-init : goal.many_at-loop-i-init
 many_at-loop-i-init t c =
     let size : length c.args.tokens.now - 0 ≡ length (kinds c.args.tokens.now) = omega (arith, length-map c.args.tokens.now (λ s. s.token)) in
-    many_is (read_command c.args.left) (length c.args.tokens.now - 0) (kinds c.args.tokens.now) size ∙ ap (λ l. items_at (read_command c.args.left) (length c.args.tokens.now - 0) l (kinds c.args.tokens.now)) (sym c.new-commands.ensures)
+    many_is (read_command c.args.left) (length c.args.tokens.now - 0) (kinds c.args.tokens.now) size ∙ ap (λ l. items_at (read_command c.args.left) (length c.args.tokens.now - 0) l (kinds c.args.tokens.now)) (sym c.in_ok-commands.ensures)
 
 pub many_at-returns-in-Some : goal.many_at-returns-in-Some
 many_at-returns-in-Some t c =
     let more : length c.args.tokens.now - c.loop-i._i ≡ suc (length c.args.tokens.now - (c.loop-i._i + 1)) = omega arith in
     let found : closed (kinds c.loop-i.rest.now) ≡ Some (kinds c.in-Some.behind.now) = sym c.closed.ensures ∙ ap (option_map (λ r. kinds r.now)) c.in-Some.is in
-    c.loop-i.invariant ∙ items_closed (read_command c.args.left) (length c.args.tokens.now) c.loop-i._i (length c.args.tokens.now - (c.loop-i._i + 1)) more c.loop-i.commands (kinds c.loop-i.rest.now) (kinds c.in-Some.behind.now) found
+    c.loop-i.invariant ∙ items_closed (read_command c.args.left) (length c.args.tokens.now) c.loop-i._i (length c.args.tokens.now - (c.loop-i._i + 1)) more c.loop-i.commands (kinds c.loop-i.rest.now) (kinds c.in-Some.behind.now) found ∙ ap (λ l. Ok (l, kinds c.in-Some.behind.now)) (sym c.in_ok-fitted.ensures)
 
 pub many_at-returns-in_err-rest : goal.many_at-returns-in_err-rest
 many_at-returns-in_err-rest t c =
     let more : length c.args.tokens.now - c.loop-i._i ≡ suc (length c.args.tokens.now - (c.loop-i._i + 1)) = omega arith in
     let none : closed (kinds c.loop-i.rest.now) ≡ None = sym c.closed.ensures ∙ ap (option_map (λ r. kinds r.now)) c.in_default.is in
-    rw (err_of c.from_residual.result c.in_err-rest.field-0.0 c.from_residual.ensures.1)
+    rw (err_of c.from_residual-in_err-rest.result c.in_err-rest.field-0.0 c.from_residual-in_err-rest.ensures.1)
     (subst (λ r. Stops c.in_err-rest.field-0.0 r) (sym c.loop-i.invariant) (items_stops (read_command c.args.left) (length c.args.tokens.now) c.loop-i._i (length c.args.tokens.now - (c.loop-i._i + 1)) more c.loop-i.commands (kinds c.loop-i.rest.now) c.in_err-rest.field-0.0 none c.in_err-rest.ensures))
 
 pub many_at-loop-i-preserved : goal.many_at-loop-i-preserved
