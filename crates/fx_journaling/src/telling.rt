@@ -5,10 +5,10 @@ ghost use Rattle.fx_journaling.specs.Taken.{HasGrown, TellCause};
 
 use crate::fault::RecordFault;
 use fx_base::NoMemory;
-use fx_board::{Event, Events};
+use fx_board::Event;
 use fx_command::print_all;
 use fx_outside::Sink;
-use fx_report::event_lines;
+use fx_report::add_event_line;
 use fx_store::LongText;
 use std::alloc::Global;
 
@@ -16,9 +16,9 @@ use std::alloc::Global;
 fn line_of(alloc: Global, event: Event) -> Result<LongText, NoMemory>
     ensures { IfOk result (λ line. line ≡ event_line event) }
 {
-    let mut events = Events::new(alloc);
-    events.push(event)?;
-    event_lines(alloc, &events)
+    let mut line = Vec::new(alloc);
+    add_event_line(&mut line, &event)?;
+    Ok(LongText::from_vec(line))
 }
 
 /// Writes the line of an event. After a refusal a front of it is written.
