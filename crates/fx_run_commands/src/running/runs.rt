@@ -1,16 +1,17 @@
 //! Whole runs from a base on.
 ghost use Rattle.std.specs.Prelude.{◌≡◌, ◌++◌, ◌<◌, All, IfOk, length};
 ghost use Rattle.fx_spec.specs.Bases.{base_tree};
+ghost use Rattle.fx_report.specs.Entries as whole;
 ghost use Rattle.fx_words.specs.Job.{Plain, Scheduled, Watched};
 ghost use Rattle.fx_words.specs.JobOf.{asked, IsJob};
-ghost use Rattle.fx_run_commands.specs.Runs.Answers.{last_of, IsPrintedTrace, IsRunFrom};
+ghost use Rattle.fx_run_commands.specs.Runs.Answers.{last_of, IsRunFrom};
 ghost use Rattle.fx_inputs.specs.Inputs.{HasEachScript};
 
 use fx_base::NoMemory;
-use fx_board::Board;
+use fx_board::{Board, Event, Retries};
 use fx_outside::Gate;
-use fx_report::{event_lines, report};
-use fx_sched::{Traced, run_schedule};
+use fx_report::{add_event_line, add_report, report};
+use fx_sched::{Taker, World, play};
 use fx_spec::Base;
 use fx_store::LongText;
 use fx_watch::run_watched;
@@ -35,15 +36,6 @@ impl Answer {
     }
 }
 
-/// Two texts, one after the other.
-fn joined(front: LongText, back: &LongText) -> Result<LongText, NoMemory>
-    ensures { IfOk result (λ text. text ≡ front ++ back.now) }
-{
-    let mut bytes = front.into_vec();
-    bytes.extend_from_slice(back.as_slice())?;
-    Ok(LongText::from_vec(bytes))
-}
-
 /// Runs each script on a thread of its own.
 pub(crate) fn run_base<R: Threads + Wait + Sync, G: Gate + Sync>(
     rt: &R,
@@ -65,27 +57,35 @@ pub(crate) fn run_base<R: Threads + Wait + Sync, G: Gate + Sync>(
     }
 }
 
-/// What is printed of a run by a schedule: its events, and then its report.
-fn traced_output(alloc: Global, traced: &Traced) -> Result<LongText, NoMemory>
-    ensures { IfOk result (IsPrintedTrace traced.now) }
-{
-    let report = report(alloc, &traced.board, &traced.retries)?;
-    let events = event_lines(alloc, &traced.events)?;
-    joined(events, &report)
+/// The lines of the events of a run, each of which is let go once it has its line.
+#[derive(Drop)]
+struct Lines {
+    text: Vec<u8>,
 }
 
-/// The log of a traced run. The rest is left where it is, as the command leaves the log.
-fn board_of(traced: Traced) -> Board
-    ensures { result ≡ traced.board }
+impl Taker for Lines {
+    ghost use Rattle.std.specs.Prelude.{⊤};
+    ghost use Rattle.fx_report.specs.Events.{lines};
+
+    type Stop = NoMemory;
+
+    ghost took = { λ taker events running. taker.text.items ≡ lines events };
+
+    ghost refused = { λ taker stop events event running. ⊤ };
+
+    fn take(&mut self, _alloc: Global, _world: &World, event: Event) -> Result<(), NoMemory> {
+        add_event_line(&mut self.text, &event)
+    }
+}
+
+/// What is printed of a run by a schedule: the lines of its events, and then its report.
+fn traced_output(lines: Lines, board: &Board, retries: &Retries) -> Result<LongText, NoMemory>
+    ensures { IfOk result (λ text. text
+        ≡ lines.text.items ++ whole.report board.now.base board.now.order retries.now) }
 {
-    let Traced {
-        board,
-        retries,
-        events,
-    } = traced;
-    mem::forget(retries);
-    mem::forget(events);
-    board
+    let mut out = lines.text;
+    add_report(&mut out, board, retries)?;
+    Ok(LongText::from_vec(out))
 }
 
 /// Runs all scripts on one thread, by a schedule of shells.
@@ -94,9 +94,14 @@ fn run_by(alloc: Global, base: Arc<Base>, schedule: &[u32]) -> Result<Answer, No
     ensures { IfOk result (λ a.
         IsRunFrom (base_tree base.value) (Scheduled schedule.now) (last_of a) a.output) }
 {
-    let traced = run_schedule(alloc, base, schedule)?;
-    let output = traced_output(alloc, &traced);
-    let board = board_of(traced);
+    let mut lines = Lines {
+        text: Vec::new(alloc),
+    };
+    let Ok((board, retries)) = play(alloc, base, schedule, &mut lines) else {
+        return Err(NoMemory);
+    };
+    let output = traced_output(lines, &board, &retries);
+    mem::forget(retries);
     match output {
         Ok(output) => Ok(Answer { board, output }),
         Err(fault) => {
