@@ -10,7 +10,7 @@ mod views;
 pub use fx_board::{Retries, Retry};
 pub use lines::{
     add_entry_words, add_event_line, add_field, add_print_words, add_report, add_retry_words,
-    event_lines, printed_report, report, value_line,
+    printed_report, report, value_line,
 };
 pub use printed::{PrintedEntries, PrintedEntry, View, Viewed};
 pub use quotes::add_bytes;

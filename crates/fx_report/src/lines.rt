@@ -9,7 +9,7 @@ use crate::printed::{PrintedEntries, PrintedEntry};
 use crate::quotes::{add_around, add_bytes, add_number, add_quoted_path, add_spelled_path};
 use crate::values::add_value;
 use fx_base::NoMemory;
-use fx_board::{Board, Entry, Event, Events, Retries, Retry};
+use fx_board::{Board, Entry, Event, Retries, Retry};
 use fx_expr::{ExprFault, Value, Values};
 use fx_spec::{End, Refusal};
 use fx_store::{LongText, Path};
@@ -317,17 +317,6 @@ pub fn add_event_line(out: &mut Vec<u8>, event: &Event) -> Result<(), NoMemory>
         Event::Settled { shell, entry } => add_settling(out, *shell, *entry),
         Event::Conflict { shell, entry, path } => add_conflict(out, *shell, *entry, path),
     }
-}
-
-/// The lines of events, one for each.
-pub fn event_lines(alloc: Global, events: &Events) -> Result<LongText, NoMemory>
-    ensures { IfOk result (λ text. text ≡ told.lines events.now) }
-{
-    let mut out = Vec::new(alloc);
-    for event in events {
-        add_event_line(&mut out, event)?;
-    }
-    Ok(LongText::from_vec(out))
 }
 
 /// The line that shows a value.

@@ -9,6 +9,6 @@ mod shell;
 mod taking;
 mod world;
 
-pub use schedule::{Traced, run_schedule};
+pub use schedule::Traced;
 pub use taking::{Ended, Taker, play};
 pub use world::World;

@@ -4,7 +4,7 @@ use crate::values::text;
 use fx_base::NoMemory;
 use fx_board::{Event, Events};
 use fx_expr::{ExprFault, Value, Values};
-use fx_report::{PrintedEntries, PrintedEntry, Retries, Retry, event_lines, printed_report};
+use fx_report::{PrintedEntries, PrintedEntry, Retries, Retry, add_event_line, printed_report};
 use fx_spec::{End, Refusal};
 use fx_store::Path;
 use std::alloc::Global;
@@ -201,7 +201,10 @@ fn add_conflict(
 
 /// Tells the lines of events.
 fn tell_events(alloc: Global, events: &Events, out: &mut String) -> Result<(), NoMemory> {
-    let lines = event_lines(alloc, events)?;
+    let mut lines = Vec::new(alloc);
+    for event in events {
+        add_event_line(&mut lines, event)?;
+    }
     tell_bytes(out, lines.as_slice())
 }
 

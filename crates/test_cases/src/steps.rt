@@ -1,9 +1,9 @@
 //! Single transactions and single steps of shells, over the texts and the folder of a stage.
 
 use fx_base::NoMemory;
-use fx_board::{Attempt, Board, Event, Events};
+use fx_board::{Attempt, Board, Event};
 use fx_command::Status;
-use fx_report::event_lines;
+use fx_report::add_event_line;
 use fx_run::run;
 use fx_sched::World;
 use fx_spec::{Base, End};
@@ -89,10 +89,9 @@ pub fn tell_attempt<P: Program>(
 }
 
 fn tell_event(alloc: Global, event: Event, out: &mut String) -> Result<(), NoMemory> {
-    let mut events = Events::new(alloc);
-    events.push(event)?;
-    let lines = event_lines(alloc, &events)?;
-    tell_bytes(out, lines.as_slice())
+    let mut line = Vec::new(alloc);
+    add_event_line(&mut line, &event)?;
+    tell_bytes(out, line.as_slice())
 }
 
 /// A shell has a turn.
