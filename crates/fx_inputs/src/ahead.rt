@@ -11,6 +11,9 @@ use std::thread::{Builder, Promise, PromisedHandle, Threads};
 /// From how many bytes on a text is worth a thread.
 const PIECE: usize = 4_096;
 
+/// How many texts are read side by side at most. More threads than processors would only be in each other's way.
+const SIDE_BY_SIDE: usize = 8;
+
 /// The text that comes back is the one that was handed over.
 #[derive(Drop)]
 struct SameText(Snapshot<Source>);
@@ -46,27 +49,40 @@ fn read_beside<R: Threads>(rt: &R, alloc: Global, text: Source, rest: &mut [Sour
         return text.read_ahead(alloc);
     }
     let begun = begin(rt, alloc, text);
-    read_ahead(rt, alloc, rest);
+    read_batch(rt, alloc, rest);
     match begun {
         Ok(running) => running.join(rt),
         Err(read) => read,
     }
 }
 
-/// Reads the texts ahead, each as if it followed no other, side by side where that is worth it.
+/// Reads the texts of a batch ahead, side by side where that is worth it.
 #[cycle(texts)]
-pub(crate) fn read_ahead<R: Threads>(rt: &R, alloc: Global, texts: &mut [Source])
+fn read_batch<R: Threads>(rt: &R, alloc: Global, texts: &mut [Source])
     ensures { texts.new ≡ texts.old }
 {
     match texts.split_first_mut() {
         None => {}
         Some((text, rest)) => {
             if text.len() < PIECE {
-                read_ahead(rt, alloc, rest)
+                read_batch(rt, alloc, rest)
             } else {
                 let taken = mem::replace(text, Source::new(Vec::new(alloc)));
                 *text = read_beside(rt, alloc, taken, rest);
             }
         }
+    }
+}
+
+/// Reads the texts ahead, each as if it followed no other, one batch after another.
+pub(crate) fn read_ahead<R: Threads>(rt: &R, alloc: Global, texts: &mut [Source])
+    ensures { texts.new ≡ texts.old }
+{
+    if texts.len() <= SIDE_BY_SIDE {
+        read_batch(rt, alloc, texts)
+    } else {
+        let (batch, rest) = texts.split_at_mut(SIDE_BY_SIDE);
+        read_batch(rt, alloc, batch);
+        read_ahead(rt, alloc, rest)
     }
 }
