@@ -11,7 +11,7 @@ use std::thread::{Builder, Promise, PromisedHandle, Threads};
 /// From how many bytes on a text is worth a thread.
 const PIECE: usize = 4_096;
 
-/// How many texts are read side by side at most. More threads than processors would only be in each other's way.
+/// How many texts are read side by side at most. More threads contend for the address space.
 const SIDE_BY_SIDE: usize = 8;
 
 /// The text that comes back is the one that was handed over.
