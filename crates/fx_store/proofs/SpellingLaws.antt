@@ -11,7 +11,7 @@ use Rattle.fx_base.proofs.Lists.{all_pass}
 use Rattle.fx_base.proofs.Results.{chosen_ok}
 use Rattle.fx_store.specs.declared.name.PathFault.TheVariants.{BadName, TooDeep}
 use Rattle.fx_store.specs.Names.{is_slash, is_name, IsName, parts, path_text}
-use Rattle.fx_store.specs.Faults.{path_of, extended, read_path}
+use Rattle.fx_store.specs.Faults.{path_of, joined, extended, read_path}
 use Rattle.fx_store.specs.Spelling.{SpellsPath, SpellsNames, ReadsPathText, ExtendsBySpelling}
 
 -- ---- tests and lists
@@ -42,6 +42,13 @@ split_joined n [] all = slice_split_none is_slash n (name_has_no_slash n (All-he
 split_joined n (m ∷ ns) all =
     slice_split_at is_slash n 47 (join_with_byte 47 (m ∷ ns)) (name_has_no_slash n (All-head IsName n (m ∷ ns) all)) refl
     ∙ ap (λ ps. n ∷ ps) (split_joined m ns (All-tail IsName n (m ∷ ns) all))
+
+-- a path goes on by a name as by that part alone
+pub extended_by_name : (path : List (List ℕ)) (text : List ℕ) → IsName text → extended path text ≡ joined path text
+extended_by_name path text name =
+    let alone : slice_split is_slash text ≡ text ∷ [] = slice_split_none is_slash text (name_has_no_slash text name) in
+    let passes : list_all is_name (text ∷ []) ≡ true = ap (λ b. b && true) name in
+    (λ i. cond (list_all is_name (alone i)) (path_of (path ++ alone i)) (Err BadName)) ∙ ap (λ b. cond b (joined path text) (Err BadName)) passes
 
 joined_split : (text : List ℕ) → join_with_byte 47 (slice_split is_slash text) ≡ text
 joined_split text = join_with_byte-slice_split 47 text

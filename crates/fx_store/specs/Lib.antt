@@ -3,6 +3,7 @@ pub mod Examples
 pub mod Faults
 pub mod Filestore
 pub mod Held
+pub mod HeldNames
 pub mod Landings
 pub mod Names
 pub mod Orders

@@ -1,5 +1,5 @@
 //! Paths, as lists of names from the root on.
-ghost use Rattle.std.specs.Prelude.{◌≡◌, ◌-◌, ◌<◌, ℕ, List, [], ◌∷◌, length, IfOk, slice_get, option_copied, bytes_eq, refl};
+ghost use Rattle.std.specs.Prelude.{◌≡◌, ◌-◌, ◌<◌, ℕ, List, [], ◌∷◌, ◌++◌, take, suc, length, IfOk, slice_get, option_copied, bytes_eq, refl};
 ghost use Rattle.std.specs.Cmp.Lexicographic.{pointwise};
 ghost use Rattle.std.specs.Slice.Iter.{iter_rest};
 ghost use Rattle.std.specs.Cmp.{partial_equiv_from_equiv, partial_order_from_total, eq_by_cmp_equiv};
@@ -7,12 +7,13 @@ ghost use Rattle.std.specs.Ordering.{as_partial_cmp, eq_by_cmp};
 ghost use Rattle.std.specs.List.{flat_map};
 ghost use Rattle.std.proofs.Common.{ap};
 ghost use Rattle.fx_store.specs.Names.{IsPath, path_cmp};
+ghost use Rattle.fx_store.specs.HeldNames.{held_names};
 ghost use Rattle.fx_store.specs.Orders.{path_total, path_eq_same};
 ghost use Rattle.fx_store.specs.Resolve.{◌/ₚ◌, parent};
 ghost use Rattle.fx_store.specs.declared.limits.TheConstants.{MAX_PATH_NAMES};
 
 use crate::limits::MAX_PATH_NAMES;
-use crate::name::{Name, PathFault};
+use crate::name::{Name, PathFault, is_name};
 use crate::parts::{add_names, are_names, count_parts};
 use fx_base::NoMemory;
 use std::alloc::{AllocError, Global};
@@ -20,42 +21,49 @@ use std::cmp::Ordering;
 use std::hash::{Hash, Hasher};
 use std::marker::Model;
 use std::slice;
+use std::sync::ArcSlice;
 
 /// A path of at most 64 names, the first below the root. The root has none. Paths are ordered name by name, so a
 /// directory comes just before all that is below it.
 #[derive(Debug)]
 pub struct Path {
-    names: Vec<Name>,
+    held: Held,
 }
 
 /// It is written out, so that its parts are dropped in this crate alone.
 impl Drop for Path {
     fn drop(self) {
-        let Path { names: _names } = self;
+        let Path { held: _held } = self;
     }
+}
+
+/// No names, or the first of some that other paths share, and how many they are.
+#[derive(Debug, Drop)]
+enum Held {
+    Root,
+    Names(ArcSlice<Name>, usize),
 }
 
 impl Model for Path {
     ghost use Rattle.std.specs.Prelude.{List, ℕ};
     ghost use Rattle.fx_store.specs.Names.{IsPath};
+    ghost use Rattle.fx_store.specs.HeldNames.{held_names};
 
     ghost Value = { List (List ℕ) };
 
-    ghost view = { λ p. p.names.items };
+    ghost view = { λ p. held_names p.held };
 
-    ghost invariant = { λ p. IsPath p.names.items };
+    ghost invariant = { λ p. IsPath (held_names p.held) };
 }
 
 impl Path {
     ghost use Rattle.fx_store.specs.Faults.{Answers, read_path, joined, extended};
 
     /// The root, which has no names.
-    pub fn root(alloc: Global) -> Path
+    pub fn root(_alloc: Global) -> Path
         ensures { result ≡ [] }
     {
-        Path {
-            names: Vec::new(alloc),
-        }
+        Path { held: Held::Root }
     }
 
     /// Reads a path text: `/`, or each name with a `/` before it. It is `BadName` where it is no path text of any
@@ -74,12 +82,28 @@ impl Path {
     pub fn join(&self, alloc: Global, name: &Name) -> Result<Path, PathFault>
         ensures { Answers result (joined self.now name.now) }
     {
-        if self.names.len() >= MAX_PATH_NAMES {
+        let names = self.held.as_slice();
+        if names.len() >= MAX_PATH_NAMES {
             return Err(PathFault::TooDeep);
         }
-        let mut names = with_room(alloc, &self.names, 1)?;
+        let mut names = with_room(alloc, names, 1)?;
         names.push(name.copy(alloc)?)?;
-        Ok(Path { names })
+        Ok(Path {
+            held: shared(names)?,
+        })
+    }
+
+    /// The path with one name more, as `join` answers it. It shares the names of a way that goes on by that name.
+    pub fn join_along(&self, alloc: Global, name: &Name, way: &Path) -> Result<Path, PathFault>
+        ensures { Answers result (joined self.now name.now) }
+    {
+        let names = self.held.as_slice();
+        if goes_on_by(way.held.as_slice(), names, name) {
+            return Ok(Path {
+                held: first(&way.held, names.len() + 1)?,
+            });
+        }
+        self.join(alloc, name)
     }
 
     /// The path of an entry; the caller keeps the limit of 64 names.
@@ -87,36 +111,44 @@ impl Path {
         requires { length self.now < MAX_PATH_NAMES }
         ensures { IfOk result (λ p. p ≡ self.now /ₚ name.now) }
     {
-        let mut names = with_room(alloc, &self.names, 1)?;
+        let mut names = with_room(alloc, self.held.as_slice(), 1)?;
         names.push(name.copy(alloc)?)?;
-        Ok(Path { names })
+        Ok(Path {
+            held: shared(names)?,
+        })
     }
 
     /// The directory above; the root is above itself.
-    pub fn parent(&self, alloc: Global) -> Result<Path, NoMemory>
+    pub fn parent(&self, _alloc: Global) -> Result<Path, NoMemory>
         ensures { IfOk result (λ p. p ≡ parent self.now) }
     {
-        let kept = self.names.len().saturating_sub(1);
+        let kept = self.held.as_slice().len().saturating_sub(1);
         Ok(Path {
-            names: Vec::from_clones(alloc, &self.names[..kept])?,
+            held: first(&self.held, kept)?,
         })
     }
 
     /// The path that goes on by the names of a text, which has one `/` between each two. It is `BadName` where the
     /// text is not made so, and else `TooDeep` where there are more than 64 names.
+    #[tactic(auto, using(crate::proofs::SpellingLaws::extended_by_name))]
     pub fn extend(&self, alloc: Global, text: &[u8]) -> Result<Path, PathFault>
         ensures { Answers result (extended self.now text.now) }
     {
+        if is_name(text) {
+            return self.join(alloc, &Name::of(alloc, text)?);
+        }
         if !are_names(text) {
             return Err(PathFault::BadName);
         }
         let more = count_parts(text);
-        if more > MAX_PATH_NAMES - self.names.len() {
+        if more > MAX_PATH_NAMES - self.held.as_slice().len() {
             return Err(PathFault::TooDeep);
         }
-        let mut names = with_room(alloc, &self.names, more)?;
+        let mut names = with_room(alloc, self.held.as_slice(), more)?;
         add_names(alloc, &mut names, text)?;
-        Ok(Path { names })
+        Ok(Path {
+            held: shared(names)?,
+        })
     }
 
     /// How the paths are ordered: by their first names that differ, and else the shorter one first.
@@ -131,7 +163,7 @@ impl Path {
         ensures len { result ≡ length self.now }
         ensures path { IsPath self.now }
     {
-        self.names.len() as u32
+        self.held.as_slice().len() as u32
     }
 
     /// The name at an index, counted from 0 below the root.
@@ -139,7 +171,7 @@ impl Path {
         ensures name { option_copied result ≡ slice_get self.now i }
         ensures path { IsPath self.now }
     {
-        self.names.get(i as usize)
+        self.held.as_slice().get(i as usize)
     }
 
     /// The last name; the root has none.
@@ -147,7 +179,7 @@ impl Path {
         ensures name { option_copied result ≡ slice_get self.now (length self.now - 1) }
         ensures path { IsPath self.now }
     {
-        self.names.last()
+        self.held.as_slice().last()
     }
 
     /// The names, from the first below the root.
@@ -156,18 +188,82 @@ impl Path {
         ensures len { length (iter_rest result) ≡ length self.now }
         ensures path { IsPath self.now }
     {
-        self.names.iter()
+        self.held.as_slice().iter()
     }
 
     /// An equal path, which shares its names with this one.
-    pub fn copy(&self, alloc: Global) -> Result<Path, NoMemory>
+    pub fn copy(&self, _alloc: Global) -> Result<Path, NoMemory>
         ensures copied { IfOk result (λ p. p ≡ self.now) }
         ensures path { IsPath self.now }
     {
         Ok(Path {
-            names: Vec::from_clones(alloc, &self.names)?,
+            held: copied(&self.held)?,
         })
     }
+}
+
+impl Held {
+    fn as_slice(&self) -> &[Name]
+        ensures { result.now ≡ held_names self.now }
+    {
+        match self {
+            Held::Root => &[],
+            Held::Names(names, count) => {
+                let names = names.as_slice();
+                &names[..names.len().min(*count)]
+            }
+        }
+    }
+}
+
+fn shared(names: Vec<Name>) -> Result<Held, NoMemory>
+    ensures { IfOk result (λ held. held_names held ≡ names.items) }
+{
+    if names.is_empty() {
+        return Ok(Held::Root);
+    }
+    let count = names.len();
+    Ok(Held::Names(ArcSlice::from_vec(names)?, count))
+}
+
+fn copied(held: &Held) -> Result<Held, AllocError>
+    ensures { IfOk result (λ other. held_names other ≡ held_names held.now) }
+{
+    match held {
+        Held::Root => Ok(Held::Root),
+        Held::Names(names, count) => Ok(Held::Names(names.clone()?, *count)),
+    }
+}
+
+/// So many of the names, shared: all where there are no more.
+fn first(held: &Held, count: usize) -> Result<Held, AllocError>
+    ensures { IfOk result (λ other. held_names other ≡ take count (held_names held.now)) }
+{
+    match held {
+        Held::Root => Ok(Held::Root),
+        Held::Names(names, all) => Ok(Held::Names(names.clone()?, count.min(*all))),
+    }
+}
+
+/// Whether a way goes on by the name after these names.
+fn goes_on_by(way: &[Name], names: &[Name], name: &Name) -> bool
+    ensures { result ≡ pointwise bytes_eq (take (suc (length names.now)) way.now) (names.now ++ name.now ∷ []) }
+{
+    let mut way = way;
+    let mut names = names;
+    'names: while let Some((x, c)) = way.split_first() {
+        match names.split_first() {
+            None => return x == name,
+            Some((y, d)) => {
+                if x != y {
+                    return false;
+                }
+                way = c;
+                names = d;
+            }
+        }
+    }
+    false
 }
 
 /// A copy of the names, with room for so many more.
@@ -183,6 +279,9 @@ fn with_room(alloc: Global, names: &[Name], more: usize) -> Result<Vec<Name>, No
 fn are_same(a: &[Name], b: &[Name]) -> bool
     ensures { result ≡ pointwise bytes_eq a.now b.now }
 {
+    if a.len() != b.len() {
+        return false;
+    }
     let mut a = a;
     let mut b = b;
     'names: while let Some((x, c)) = a.split_first() {
@@ -205,7 +304,7 @@ impl Clone for Path {
 
     fn clone(&self) -> Result<Path, AllocError> {
         Ok(Path {
-            names: self.names.clone()?,
+            held: copied(&self.held)?,
         })
     }
 }
@@ -216,7 +315,7 @@ impl PartialEq for Path {
     ghost laws = { partial_equiv_from_equiv (eq_by_cmp_equiv path_total) };
 
     fn eq(&self, other: &Path) -> bool {
-        are_same(self.names.as_slice(), other.names.as_slice())
+        are_same(self.held.as_slice(), other.held.as_slice())
     }
 }
 
@@ -244,7 +343,7 @@ impl Ord for Path {
     ghost matches_eq = { λ _ _. refl };
 
     fn cmp(&self, other: &Path) -> Ordering {
-        self.names.cmp(&other.names)
+        self.held.as_slice().cmp(other.held.as_slice())
     }
 }
 
@@ -254,6 +353,6 @@ impl Hash for Path {
     ghost respects_eq = { λ x y e. ap (flat_map (λ n. n ∷ [])) (path_eq_same x y e) };
 
     fn hash<H: Hasher>(&self, state: &mut H) {
-        Name::hash_slice(&self.names, state);
+        Name::hash_slice(self.held.as_slice(), state);
     }
 }

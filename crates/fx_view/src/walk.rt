@@ -13,9 +13,11 @@ use std::mem;
 /// The most links that are followed.
 const MAX_LINKS: u32 = 40;
 
+/// It knows the path that was asked, so that the paths along it share its names.
 #[derive(Drop)]
 pub(crate) struct Walk<'a> {
     here: Path,
+    path: &'a Path,
     rest: Way<'a>,
     links: u32,
     follow: bool,
@@ -36,6 +38,7 @@ pub(crate) fn start<'a>(alloc: Global, path: &'a Path, follow: bool) -> Walk<'a>
 {
     Walk {
         here: Path::root(alloc),
+        path,
         rest: Way::along(alloc, path),
         links: MAX_LINKS,
         follow,
@@ -71,7 +74,7 @@ fn enter(alloc: Global, walk: &Walk<'_>, name: Name) -> Result<Next, NoMemory>
     ensures rule { IfOk result (λ next. rule_named walk.now name ≡ rule_then walk.now next) }
     ensures looks { IfOk result (LooksAt walk.now name) }
 {
-    match walk.here.join(alloc, &name) {
+    match walk.here.join_along(alloc, &name, walk.path) {
         Ok(path) => Ok(Next::Looks(name, path)),
         Err(PathFault::TooDeep) => {
             let here = walk.here.copy(alloc)?;

@@ -22,6 +22,6 @@ returns-in_ok-walk-in-Some-ParentDir-clause-rule c =
 pub returns-in-Some-Normal-clause-rule : goal.returns-in-Some-Normal-clause-rule
 returns-in-Some-Normal-clause-rule c =
     let w = c.args.walk.now in
-    let after : Walk = record { here = w.here; rest = c.take_first.new.self; links = w.links; follow = w.follow } in
+    let after : Walk = record w { rest = c.take_first.new.self } in
     let named = rule_of-named w after refl refl c.in-Some-Normal.name ((rw c.in-Some-Normal.is at c.in_ok-first.ensures) ∙ ap (λ x. meant x ∷ c.take_first.new.self) c.in-Some-Normal.field-0-is) refl in
     subst (λ (rule : Ask Landing). IfOk c.enter.result (λ next. rule ≡ rule_then after next)) (sym named) c.enter.ensures.rule

@@ -7,5 +7,5 @@ use Rattle.fx_store.proofs.path.PathPartialEq.eq.Goals as goal
 pub returns : goal.returns
 returns c =
     c.are_same.ensures
-    ∙ ((λ i. pointwise bytes_eq ((c.as_slice.ensures.value ∙ c.self.view_is) i) ((c.as_slice-2.ensures.value ∙ c.other.view_is) i))
+    ∙ ((λ i. pointwise bytes_eq ((c.as_slice.ensures ∙ c.self.view_is) i) ((c.as_slice-2.ensures ∙ c.other.view_is) i))
     ∙ lists_ties name_cmp texts_ties c.args.self.now c.args.other.now)
