@@ -4,3 +4,4 @@ pub mod Spelling
 pub mod Steps
 pub mod Logs
 pub mod Tracing
+pub mod Writing

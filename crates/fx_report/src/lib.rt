@@ -2,6 +2,7 @@
 #![tactic(auto)]
 
 mod lines;
+mod pieces;
 mod printed;
 mod quotes;
 mod values;

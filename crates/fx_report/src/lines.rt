@@ -1,12 +1,13 @@
-ghost use Rattle.std.specs.Prelude.{◌≡◌, ◌++◌, OnOk, IfOk, codes, length};
+ghost use Rattle.std.specs.Prelude.{◌≡◌, ◌≤◌, ◌++◌, OnOk, IfOk, IfSome, codes, drop, length};
 ghost use Rattle.std.specs.List.{flat_map};
 ghost use Rattle.fx_expr.specs.Views.{tree_of};
 ghost use Rattle.fx_report.specs.Entries as whole;
 ghost use Rattle.fx_report.specs.Events as told;
 ghost use Rattle.fx_report.specs.Report as report;
 
+use crate::pieces::{write_bytes, write_field, write_path};
 use crate::printed::{PrintedEntries, PrintedEntry};
-use crate::quotes::{add_around, add_bytes, add_number, add_quoted_path, add_spelled_path};
+use crate::quotes::{add_bytes, add_number, add_quoted_path};
 use crate::values::add_value;
 use fx_base::NoMemory;
 use fx_board::{Board, Entry, Event, Retries, Retry};
@@ -74,8 +75,11 @@ fn add_stop(out: &mut Vec<u8>, command: u32, refusal: &Refusal) -> Result<(), No
     ensures { OnOk result
         (out.new.items ≡ out.old.items ++ report.end_text (End.Stopped command refusal.now)) }
 {
-    add_around(out, b"stopped ", u64::from(command), b" ")?;
-    add_around(out, b"", u64::from(refusal.number()), b" ")?;
+    let mut piece = [0; 160];
+    let back = write_bytes(&mut piece, b" ", 160);
+    let number = write_field(&mut piece, b" ", u64::from(refusal.number()), back);
+    let start = write_field(&mut piece, b"stopped ", u64::from(command), number);
+    add_bytes(out, &piece[start..])?;
     add_refusal(out, refusal)
 }
 
@@ -102,9 +106,12 @@ pub fn add_entry_words(
     ensures { OnOk result
         (out.new.items ≡ out.old.items ++ report.entry_words number shell txn end.now) }
 {
-    add_around(out, b"entry ", number, b" shell ")?;
-    add_around(out, b"", u64::from(shell), b" txn ")?;
-    add_around(out, b"", u64::from(txn), b" ")?;
+    let mut piece = [0; 160];
+    let back = write_bytes(&mut piece, b" ", 160);
+    let of_txn = write_field(&mut piece, b" txn ", u64::from(txn), back);
+    let of_shell = write_field(&mut piece, b" shell ", u64::from(shell), of_txn);
+    let start = write_field(&mut piece, b"entry ", number, of_shell);
+    add_bytes(out, &piece[start..])?;
     add_end(out, end)
 }
 
@@ -189,16 +196,39 @@ fn add_entries(out: &mut Vec<u8>, entries: &PrintedEntries) -> Result<(), NoMemo
     Ok(())
 }
 
+/// Writes the line of a retry at the end of a piece, and tells where it starts: `None` where its path is not written.
+fn write_retry(piece: &mut [u8; 160], retry: &Retry) -> Option<usize>
+    ensures { IfSome result (λ start. (start ≤ 160)
+        × (drop start piece.new ≡ report.retry_words retry.now)) }
+{
+    let back = write_bytes(piece, b"\"", 160);
+    let names = write_path(piece, &retry.path, back)?;
+    let quote = write_bytes(piece, b" path \"", names);
+    let entry = write_field(piece, b" entry ", retry.entry, quote);
+    let txn = write_field(piece, b" txn ", u64::from(retry.txn), entry);
+    Some(write_field(piece, b"retry shell ", u64::from(retry.shell), txn))
+}
+
+/// Adds the line of a retry whose path is not written in a piece.
+fn add_long_retry(out: &mut Vec<u8>, retry: &Retry) -> Result<(), NoMemory>
+    ensures { OnOk result (out.new.items ≡ out.old.items ++ report.retry_words retry.now) }
+{
+    add_field(out, b"retry shell ", u64::from(retry.shell))?;
+    add_field(out, b" txn ", u64::from(retry.txn))?;
+    add_field(out, b" entry ", retry.entry)?;
+    add_bytes(out, b" path ")?;
+    add_quoted_path(out, &retry.path)
+}
+
 /// Adds the line of a retry, without its line feed.
 pub fn add_retry_words(out: &mut Vec<u8>, retry: &Retry) -> Result<(), NoMemory>
     ensures { OnOk result (out.new.items ≡ out.old.items ++ report.retry_words retry.now) }
 {
-    add_around(out, b"retry shell ", u64::from(retry.shell), b" txn ")?;
-    add_around(out, b"", u64::from(retry.txn), b" entry ")?;
-    add_around(out, b"", retry.entry, b" path \"")?;
-    add_spelled_path(out, &retry.path)?;
-    add_bytes(out, b"\"")?;
-    Ok(())
+    let mut piece = [0; 160];
+    if let Some(start) = write_retry(&mut piece, retry) {
+        return add_bytes(out, &piece[start..]);
+    }
+    add_long_retry(out, retry)
 }
 
 #[tactic(auto, unfolding(crate::specs::Report::retry_line))]
@@ -275,33 +305,87 @@ pub fn report(alloc: Global, board: &Board, retries: &Retries) -> Result<LongTex
     Ok(LongText::from_vec(out))
 }
 
-#[tactic(auto, unfolding(crate::specs::Events::look_line, crate::specs::Report::field, crate::specs::Print::quote))]
+/// Writes the line of a look at the end of a piece, and tells where it starts: `None` where its path is not written.
+fn write_look(piece: &mut [u8; 160], shell: u32, path: &Path, position: u64) -> Option<usize>
+    ensures { IfSome result (λ start. (start ≤ 160)
+        × (drop start piece.new ≡ told.look_line shell path.now position)) }
+{
+    let line_feed = write_bytes(piece, b"\n", 160);
+    let back = write_field(piece, b"\" ", position, line_feed);
+    let names = write_path(piece, path, back)?;
+    let quote = write_bytes(piece, b" \"", names);
+    Some(write_field(piece, b"look ", u64::from(shell), quote))
+}
+
+/// Adds the line of a look whose path is not written in a piece.
+#[tactic(auto, unfolding(crate::specs::Events::look_line))]
+fn add_long_look(out: &mut Vec<u8>, shell: u32, path: &Path, position: u64) -> Result<(), NoMemory>
+    ensures { OnOk result
+        (out.new.items ≡ out.old.items ++ told.look_line shell path.now position) }
+{
+    add_field(out, b"look ", u64::from(shell))?;
+    add_bytes(out, b" ")?;
+    add_quoted_path(out, path)?;
+    add_field(out, b" ", position)?;
+    add_bytes(out, b"\n")
+}
+
 fn add_look(out: &mut Vec<u8>, shell: u32, path: &Path, position: u64) -> Result<(), NoMemory>
     ensures { OnOk result
         (out.new.items ≡ out.old.items ++ told.look_line shell path.now position) }
 {
-    add_around(out, b"look ", u64::from(shell), b" \"")?;
-    add_spelled_path(out, path)?;
-    add_around(out, b"\" ", position, b"\n")
+    let mut piece = [0; 160];
+    if let Some(start) = write_look(&mut piece, shell, path, position) {
+        return add_bytes(out, &piece[start..]);
+    }
+    add_long_look(out, shell, path, position)
 }
 
-#[tactic(auto, unfolding(crate::specs::Events::settled_line, crate::specs::Report::field, crate::specs::Print::quote))]
+#[tactic(auto, unfolding(crate::specs::Events::settled_line))]
 fn add_settling(out: &mut Vec<u8>, shell: u32, entry: u64) -> Result<(), NoMemory>
     ensures { OnOk result (out.new.items ≡ out.old.items ++ told.settled_line shell entry) }
 {
-    add_around(out, b"settled ", u64::from(shell), b" ")?;
-    add_around(out, b"", entry, b"\n")
+    let mut piece = [0; 160];
+    let back = write_bytes(&mut piece, b"\n", 160);
+    let number = write_field(&mut piece, b" ", entry, back);
+    let start = write_field(&mut piece, b"settled ", u64::from(shell), number);
+    add_bytes(out, &piece[start..])
 }
 
-#[tactic(auto, unfolding(crate::specs::Events::conflict_line, crate::specs::Report::field, crate::specs::Print::quote))]
+/// Writes the line of a conflict at the end of a piece, and tells where it starts: `None` where its path is not written.
+fn write_conflict(piece: &mut [u8; 160], shell: u32, entry: u64, path: &Path) -> Option<usize>
+    ensures { IfSome result (λ start. (start ≤ 160)
+        × (drop start piece.new ≡ told.conflict_line shell entry path.now)) }
+{
+    let back = write_bytes(piece, b"\"\n", 160);
+    let names = write_path(piece, path, back)?;
+    let quote = write_bytes(piece, b" \"", names);
+    let number = write_field(piece, b" ", entry, quote);
+    Some(write_field(piece, b"conflict ", u64::from(shell), number))
+}
+
+/// Adds the line of a conflict whose path is not written in a piece.
+#[tactic(auto, unfolding(crate::specs::Events::conflict_line))]
+fn add_long_conflict(out: &mut Vec<u8>, shell: u32, entry: u64, path: &Path) -> Result<(), NoMemory>
+    ensures { OnOk result
+        (out.new.items ≡ out.old.items ++ told.conflict_line shell entry path.now) }
+{
+    add_field(out, b"conflict ", u64::from(shell))?;
+    add_field(out, b" ", entry)?;
+    add_bytes(out, b" ")?;
+    add_quoted_path(out, path)?;
+    add_bytes(out, b"\n")
+}
+
 fn add_conflict(out: &mut Vec<u8>, shell: u32, entry: u64, path: &Path) -> Result<(), NoMemory>
     ensures { OnOk result
         (out.new.items ≡ out.old.items ++ told.conflict_line shell entry path.now) }
 {
-    add_around(out, b"conflict ", u64::from(shell), b" ")?;
-    add_around(out, b"", entry, b" \"")?;
-    add_spelled_path(out, path)?;
-    add_bytes(out, b"\"\n")
+    let mut piece = [0; 160];
+    if let Some(start) = write_conflict(&mut piece, shell, entry, path) {
+        return add_bytes(out, &piece[start..]);
+    }
+    add_long_conflict(out, shell, entry, path)
 }
 
 /// Adds the line of an event.

@@ -1,4 +1,4 @@
-ghost use Rattle.std.specs.Prelude.{◌≡◌, ◌+◌, ◌<◌, ◌≤◌, ◌++◌, [], ◌∷◌, true, false, length, take, drop, IfSome, OnOk};
+ghost use Rattle.std.specs.Prelude.{◌≡◌, ◌<◌, ◌≤◌, ◌++◌, [], ◌∷◌, true, false, length, take, OnOk};
 ghost use Rattle.std.specs.Fmt.{decimal, digit_glyph};
 ghost use Rattle.std.specs.List.{flat_map};
 ghost use Rattle.fx_store.specs.Names.{path_text};
@@ -6,7 +6,7 @@ ghost use Rattle.fx_report.specs.Print.{hex_pair, quote, spelled};
 
 use fx_base::NoMemory;
 use fx_store::{Name, Path};
-use itoa::{Buffer, write_digits};
+use itoa::Buffer;
 
 /// Adds the bytes at the end of the text.
 pub fn add_bytes(out: &mut Vec<u8>, bytes: &[u8]) -> Result<(), NoMemory>
@@ -22,42 +22,6 @@ pub fn add_number(out: &mut Vec<u8>, number: u64) -> Result<(), NoMemory>
 {
     let mut buffer = Buffer::new();
     add_bytes(out, buffer.format(number).as_bytes())
-}
-
-/// Writes the bytes so that they end at `end`, and tells where they start.
-#[inline(always)]
-fn write_bytes(piece: &mut [u8; 48], bytes: &[u8], end: usize) -> usize
-    requires { (length bytes.now ≤ end) × (end ≤ 48) }
-    ensures start { result + length bytes.now ≡ end }
-    ensures written { drop result piece.new ≡ bytes.now ++ drop end piece.old }
-{
-    let mut start = end;
-    let mut left = bytes.len();
-    while left > 0 {
-        left -= 1;
-        start -= 1;
-        piece[start] = bytes[left];
-    }
-    start
-}
-
-/// Adds a number in decimal digits, with bytes before it and bytes behind it, all at once.
-#[inline(always)]
-pub(crate) fn add_around(
-    out: &mut Vec<u8>,
-    front: &[u8],
-    number: u64,
-    back: &[u8],
-) -> Result<(), NoMemory>
-    requires { length front.now + length back.now ≤ 28 }
-    ensures { OnOk result
-        (out.new.items ≡ out.old.items ++ (front.now ++ decimal number ++ back.now)) }
-{
-    let mut piece = [0; 48];
-    let number_end = write_bytes(&mut piece, back, 48);
-    let front_end = write_digits(number, &mut piece, number_end);
-    let start = write_bytes(&mut piece, front, front_end);
-    add_bytes(out, &piece[start..])
 }
 
 fn hex_digit(value: u8) -> u8
@@ -97,7 +61,7 @@ fn add_spelled(out: &mut Vec<u8>, byte: u8) -> Result<(), NoMemory>
 
 /// Whether a byte is spelled as itself between quotation marks.
 #[tactic(auto, using(std::proofs::lemmas::Bool::Decides::nat_tests), unfolding(crate::specs::Print::spelled))]
-fn is_plain(byte: u8) -> bool
+pub(crate) fn is_plain(byte: u8) -> bool
     ensures { result ≡ true → spelled byte ≡ byte ∷ [] }
 {
     match byte {
@@ -167,54 +131,15 @@ fn add_spelled_names(out: &mut Vec<u8>, path: &Path) -> Result<(), NoMemory>
     Ok(())
 }
 
-/// Writes `/` and a name behind what a piece begins with, and tells where they end: `None` where there is no room for them, or
-/// where a byte of the name is not spelled as itself.
-fn write_name(piece: &mut [u8; 64], start: usize, name: &[u8]) -> Option<usize>
-    requires { start ≤ 64 }
-    ensures { IfSome result (λ end. (end ≤ 64)
-        × (take end piece.new ≡ take start piece.old ++ flat_map spelled (47 ∷ name.now))) }
-{
-    if name.len() >= 64 - start {
-        return None;
-    }
-    piece[start] = b'/';
-    for (i, byte) in name.iter().enumerate() {
-        if !is_plain(*byte) {
-            return None;
-        }
-        piece[start + 1 + i] = *byte;
-    }
-    Some(start + 1 + name.len())
-}
-
-/// Writes each name of a path with `/` before it, and tells where they end: `None` where there is no room for them, or where a
-/// byte of a name is not spelled as itself.
-fn write_names(piece: &mut [u8; 64], path: &Path) -> Option<usize>
-    ensures { IfSome result (λ end. (end ≤ 64)
-        × (take end piece.new ≡ flat_map spelled (flat_map (λ name. 47 ∷ name) path.now))) }
-{
-    let mut end = 0;
-    for name in path.iter() {
-        end = write_name(piece, end, name.as_slice())?;
-    }
-    Some(end)
-}
-
-/// Adds the text of a path as it is spelled between quotation marks, most often all at once.
-pub(crate) fn add_spelled_path(out: &mut Vec<u8>, path: &Path) -> Result<(), NoMemory>
+/// Adds the text of a path as it is spelled between quotation marks.
+fn add_spelled_path(out: &mut Vec<u8>, path: &Path) -> Result<(), NoMemory>
     ensures { OnOk result
         (out.new.items ≡ out.old.items ++ flat_map spelled (path_text path.now)) }
 {
     if path.len() == 0 {
         return add_spelled(out, b'/');
     }
-    let mut piece = [0; 64];
-    if let Some(end) = write_names(&mut piece, path) {
-        add_bytes(out, &piece[..end])?;
-        return Ok(());
-    }
-    add_spelled_names(out, path)?;
-    Ok(())
+    add_spelled_names(out, path)
 }
 
 /// Adds the text of a path between quotation marks.
