@@ -13,7 +13,7 @@ ghost use Rattle.fx_spec.specs.Parts.{part_of};
 ghost use Rattle.fx_spec.specs.declared.refusal.Refusal.TheVariants as refusal;
 ghost use Rattle.fx_edit.specs.Values.{name_read, Tells};
 
-use fx_base::{Items, NoMemory};
+use fx_base::{Items, NoMemory, compare_bytes};
 use fx_expr::{Text, TextSet, Value};
 use fx_session::Halt;
 use fx_spec::{Form, Part, Refusal};
@@ -163,7 +163,7 @@ fn shared_name<'a>(text: &Text, left: &mut Items<'a, Name>) -> Option<&'a Name>
     ensures { IfSome result (λ name. name.now ≡ text.now) }
 {
     while let Some((name, rest)) = left.split_first() {
-        match name.as_slice().cmp(text.as_slice()) {
+        match compare_bytes(name.as_slice(), text.as_slice()) {
             Ordering::Less => *left = rest,
             Ordering::Equal => return Some(name),
             Ordering::Greater => return None,
