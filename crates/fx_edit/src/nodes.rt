@@ -139,8 +139,8 @@ fn names_of(alloc: Global, texts: &TextSet, likely: &Names) -> Result<Names, Hal
     ensures order { IsAscending texts.now }
 {
     // The texts ascend.
-    let _len = texts.len();
-    let mut names = Vec::new(alloc);
+    let len = texts.len();
+    let mut names = Vec::with_capacity(alloc, len as usize)?;
     let mut left = likely.iter();
     for text in texts.iter() {
         names.push(next_name(alloc, text, &mut left)?)?;
@@ -158,14 +158,17 @@ fn next_name(alloc: Global, text: &Text, left: &mut Items<'_, Name>) -> Result<N
     }
 }
 
-/// Goes on among ascending names to the one that a text is, or to the first above it.
+/// Goes on among ascending names behind the one that a text is, or to the first above it.
 fn shared_name<'a>(text: &Text, left: &mut Items<'a, Name>) -> Option<&'a Name>
     ensures { IfSome result (λ name. name.now ≡ text.now) }
 {
     while let Some((name, rest)) = left.split_first() {
         match compare_bytes(name.as_slice(), text.as_slice()) {
             Ordering::Less => *left = rest,
-            Ordering::Equal => return Some(name),
+            Ordering::Equal => {
+                *left = rest;
+                return Some(name);
+            }
             Ordering::Greater => return None,
         }
     }

@@ -4,8 +4,9 @@ ghost use Rattle.fx_expr.specs.Views.{tree_of};
 ghost use Rattle.fx_report.specs.Entries as whole;
 ghost use Rattle.fx_report.specs.Events as told;
 ghost use Rattle.fx_report.specs.Report as report;
+ghost use Rattle.fx_report.specs.declared.pieces.TheConstants.{PIECE};
 
-use crate::pieces::{write_bytes, write_field, write_path};
+use crate::pieces::{PIECE, write_bytes, write_field, write_path};
 use crate::printed::{PrintedEntries, PrintedEntry};
 use crate::quotes::{add_bytes, add_number, add_quoted_path};
 use crate::values::add_value;
@@ -75,8 +76,8 @@ fn add_stop(out: &mut Vec<u8>, command: u32, refusal: &Refusal) -> Result<(), No
     ensures { OnOk result
         (out.new.items ≡ out.old.items ++ report.end_text (End.Stopped command refusal.now)) }
 {
-    let mut piece = [0; 160];
-    let back = write_bytes(&mut piece, b" ", 160);
+    let mut piece = [0; PIECE];
+    let back = write_bytes(&mut piece, b" ", PIECE);
     let number = write_field(&mut piece, b" ", u64::from(refusal.number()), back);
     let start = write_field(&mut piece, b"stopped ", u64::from(command), number);
     add_bytes(out, &piece[start..])?;
@@ -106,8 +107,8 @@ pub fn add_entry_words(
     ensures { OnOk result
         (out.new.items ≡ out.old.items ++ report.entry_words number shell txn end.now) }
 {
-    let mut piece = [0; 160];
-    let back = write_bytes(&mut piece, b" ", 160);
+    let mut piece = [0; PIECE];
+    let back = write_bytes(&mut piece, b" ", PIECE);
     let of_txn = write_field(&mut piece, b" txn ", u64::from(txn), back);
     let of_shell = write_field(&mut piece, b" shell ", u64::from(shell), of_txn);
     let start = write_field(&mut piece, b"entry ", number, of_shell);
@@ -197,11 +198,11 @@ fn add_entries(out: &mut Vec<u8>, entries: &PrintedEntries) -> Result<(), NoMemo
 }
 
 /// Writes the line of a retry at the end of a piece, and tells where it starts: `None` where its path is not written.
-fn write_retry(piece: &mut [u8; 160], retry: &Retry) -> Option<usize>
-    ensures { IfSome result (λ start. (start ≤ 160)
+fn write_retry(piece: &mut [u8; PIECE], retry: &Retry) -> Option<usize>
+    ensures { IfSome result (λ start. (start ≤ PIECE)
         × (drop start piece.new ≡ report.retry_words retry.now)) }
 {
-    let back = write_bytes(piece, b"\"", 160);
+    let back = write_bytes(piece, b"\"", PIECE);
     let names = write_path(piece, &retry.path, back)?;
     let quote = write_bytes(piece, b" path \"", names);
     let entry = write_field(piece, b" entry ", retry.entry, quote);
@@ -224,7 +225,7 @@ fn add_long_retry(out: &mut Vec<u8>, retry: &Retry) -> Result<(), NoMemory>
 pub fn add_retry_words(out: &mut Vec<u8>, retry: &Retry) -> Result<(), NoMemory>
     ensures { OnOk result (out.new.items ≡ out.old.items ++ report.retry_words retry.now) }
 {
-    let mut piece = [0; 160];
+    let mut piece = [0; PIECE];
     if let Some(start) = write_retry(&mut piece, retry) {
         return add_bytes(out, &piece[start..]);
     }
@@ -306,11 +307,11 @@ pub fn report(alloc: Global, board: &Board, retries: &Retries) -> Result<LongTex
 }
 
 /// Writes the line of a look at the end of a piece, and tells where it starts: `None` where its path is not written.
-fn write_look(piece: &mut [u8; 160], shell: u32, path: &Path, position: u64) -> Option<usize>
-    ensures { IfSome result (λ start. (start ≤ 160)
+fn write_look(piece: &mut [u8; PIECE], shell: u32, path: &Path, position: u64) -> Option<usize>
+    ensures { IfSome result (λ start. (start ≤ PIECE)
         × (drop start piece.new ≡ told.look_line shell path.now position)) }
 {
-    let line_feed = write_bytes(piece, b"\n", 160);
+    let line_feed = write_bytes(piece, b"\n", PIECE);
     let back = write_field(piece, b"\" ", position, line_feed);
     let names = write_path(piece, path, back)?;
     let quote = write_bytes(piece, b" \"", names);
@@ -334,7 +335,7 @@ fn add_look(out: &mut Vec<u8>, shell: u32, path: &Path, position: u64) -> Result
     ensures { OnOk result
         (out.new.items ≡ out.old.items ++ told.look_line shell path.now position) }
 {
-    let mut piece = [0; 160];
+    let mut piece = [0; PIECE];
     if let Some(start) = write_look(&mut piece, shell, path, position) {
         return add_bytes(out, &piece[start..]);
     }
@@ -345,19 +346,19 @@ fn add_look(out: &mut Vec<u8>, shell: u32, path: &Path, position: u64) -> Result
 fn add_settling(out: &mut Vec<u8>, shell: u32, entry: u64) -> Result<(), NoMemory>
     ensures { OnOk result (out.new.items ≡ out.old.items ++ told.settled_line shell entry) }
 {
-    let mut piece = [0; 160];
-    let back = write_bytes(&mut piece, b"\n", 160);
+    let mut piece = [0; PIECE];
+    let back = write_bytes(&mut piece, b"\n", PIECE);
     let number = write_field(&mut piece, b" ", entry, back);
     let start = write_field(&mut piece, b"settled ", u64::from(shell), number);
     add_bytes(out, &piece[start..])
 }
 
 /// Writes the line of a conflict at the end of a piece, and tells where it starts: `None` where its path is not written.
-fn write_conflict(piece: &mut [u8; 160], shell: u32, entry: u64, path: &Path) -> Option<usize>
-    ensures { IfSome result (λ start. (start ≤ 160)
+fn write_conflict(piece: &mut [u8; PIECE], shell: u32, entry: u64, path: &Path) -> Option<usize>
+    ensures { IfSome result (λ start. (start ≤ PIECE)
         × (drop start piece.new ≡ told.conflict_line shell entry path.now)) }
 {
-    let back = write_bytes(piece, b"\"\n", 160);
+    let back = write_bytes(piece, b"\"\n", PIECE);
     let names = write_path(piece, path, back)?;
     let quote = write_bytes(piece, b" \"", names);
     let number = write_field(piece, b" ", entry, quote);
@@ -381,7 +382,7 @@ fn add_conflict(out: &mut Vec<u8>, shell: u32, entry: u64, path: &Path) -> Resul
     ensures { OnOk result
         (out.new.items ≡ out.old.items ++ told.conflict_line shell entry path.now) }
 {
-    let mut piece = [0; 160];
+    let mut piece = [0; PIECE];
     if let Some(start) = write_conflict(&mut piece, shell, entry, path) {
         return add_bytes(out, &piece[start..]);
     }

@@ -1,19 +1,26 @@
-//! A line is composed in a piece of 160 bytes, from its end to its front, so that it is added by one copy. A path leaves
-//! the first 96 bytes of the piece to the words and numbers before it.
-ghost use Rattle.std.specs.Prelude.{◌≡◌, ◌+◌, ◌≤◌, ◌++◌, ◌∷◌, length, drop, IfSome};
+//! A line is composed in a piece, from its end to its front, so that it is added by one copy. A path leaves the first
+//! bytes of the piece to the words and numbers before it.
+ghost use Rattle.std.specs.Prelude.{◌≡◌, ◌+◌, ◌<◌, ◌≤◌, ◌++◌, ◌∷◌, length, drop, IfSome};
 ghost use Rattle.std.specs.List.{flat_map};
 ghost use Rattle.fx_store.specs.Names.{path_text};
 ghost use Rattle.fx_report.specs.Print.{spelled};
 ghost use Rattle.fx_report.specs.Report.{field};
+ghost use Rattle.fx_report.specs.declared.pieces.TheConstants.{PIECE, AHEAD};
 
 use crate::quotes::is_plain;
 use fx_store::Path;
 use itoa::write_digits;
 
+/// The bytes of a piece.
+pub(crate) const PIECE: usize = 160;
+
+/// The bytes that a path leaves before it.
+const AHEAD: usize = 96;
+
 /// Writes the bytes so that they end at `end`, and tells where they start.
 #[inline(always)]
-pub(crate) fn write_bytes(piece: &mut [u8; 160], bytes: &[u8], end: usize) -> usize
-    requires { (length bytes.now ≤ end) × (end ≤ 160) }
+pub(crate) fn write_bytes(piece: &mut [u8; PIECE], bytes: &[u8], end: usize) -> usize
+    requires { (length bytes.now ≤ end) × (end ≤ PIECE) }
     ensures start { result + length bytes.now ≡ end }
     ensures written { drop result piece.new ≡ bytes.now ++ drop end piece.old }
 {
@@ -26,8 +33,8 @@ pub(crate) fn write_bytes(piece: &mut [u8; 160], bytes: &[u8], end: usize) -> us
 
 /// Writes words and the number after them so that they end at `end`, and tells where they start.
 #[inline(always)]
-pub(crate) fn write_field(piece: &mut [u8; 160], words: &[u8], number: u64, end: usize) -> usize
-    requires { (length words.now + 20 ≤ end) × (end ≤ 160) }
+pub(crate) fn write_field(piece: &mut [u8; PIECE], words: &[u8], number: u64, end: usize) -> usize
+    requires { (length words.now + 20 ≤ end) × (end ≤ PIECE) }
     ensures within { result ≤ end }
     ensures room { end ≤ result + (length words.now + 20) }
     ensures written { drop result piece.new ≡ field words.now number ++ drop end piece.old }
@@ -36,14 +43,14 @@ pub(crate) fn write_field(piece: &mut [u8; 160], words: &[u8], number: u64, end:
     write_bytes(piece, words, digits)
 }
 
-/// Writes `/` and a name so that they end at `end`, and tells where they start. It is `None` where fewer than 96 bytes
+/// Writes `/` and a name so that they end at `end`, and tells where they start. It is `None` where fewer than `AHEAD` bytes
 /// would be left before them, or where a byte of the name is not spelled as itself.
-fn write_name(piece: &mut [u8; 160], name: &[u8], end: usize) -> Option<usize>
-    requires { (96 ≤ end) × (end ≤ 160) }
-    ensures { IfSome result (λ start. (96 ≤ start) × (start ≤ end)
+fn write_name(piece: &mut [u8; PIECE], name: &[u8], end: usize) -> Option<usize>
+    requires { (AHEAD ≤ end) × (end ≤ PIECE) }
+    ensures { IfSome result (λ start. (AHEAD ≤ start) × (start ≤ end)
         × (drop start piece.new ≡ flat_map spelled (47 ∷ name.now) ++ drop end piece.old)) }
 {
-    if name.len() >= end - 96 {
+    if name.len() >= end - AHEAD {
         return None;
     }
     let start = end - 1 - name.len();
@@ -59,9 +66,9 @@ fn write_name(piece: &mut [u8; 160], name: &[u8], end: usize) -> Option<usize>
 
 /// Writes each name of a path with `/` before it so that they end at `end`, and tells where they start. It is `None`
 /// where `write_name` is.
-fn write_names(piece: &mut [u8; 160], path: &Path, end: usize) -> Option<usize>
-    requires { (96 ≤ end) × (end ≤ 160) }
-    ensures { IfSome result (λ start. (96 ≤ start) × (start ≤ end)
+fn write_names(piece: &mut [u8; PIECE], path: &Path, end: usize) -> Option<usize>
+    requires { (AHEAD ≤ end) × (end ≤ PIECE) }
+    ensures { IfSome result (λ start. (AHEAD ≤ start) × (start ≤ end)
         × (drop start piece.new
         ≡ flat_map spelled (flat_map (λ name. 47 ∷ name) path.now) ++ drop end piece.old)) }
 {
@@ -75,11 +82,11 @@ fn write_names(piece: &mut [u8; 160], path: &Path, end: usize) -> Option<usize>
     Some(start)
 }
 
-/// Writes the text of a path so that it ends at `end`, and tells where it starts. It is `None` where fewer than 96 bytes
+/// Writes the text of a path so that it ends at `end`, and tells where it starts. It is `None` where fewer than `AHEAD` bytes
 /// would be left before it, or where a byte of a name is not spelled as itself.
-pub(crate) fn write_path(piece: &mut [u8; 160], path: &Path, end: usize) -> Option<usize>
-    requires { (97 ≤ end) × (end ≤ 160) }
-    ensures { IfSome result (λ start. (96 ≤ start) × (start ≤ end)
+pub(crate) fn write_path(piece: &mut [u8; PIECE], path: &Path, end: usize) -> Option<usize>
+    requires { (AHEAD < end) × (end ≤ PIECE) }
+    ensures { IfSome result (λ start. (AHEAD ≤ start) × (start ≤ end)
         × (drop start piece.new ≡ flat_map spelled (path_text path.now) ++ drop end piece.old)) }
 {
     if path.len() == 0 {

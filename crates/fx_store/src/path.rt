@@ -82,15 +82,10 @@ impl Path {
     pub fn join(&self, alloc: Global, name: &Name) -> Result<Path, PathFault>
         ensures { Answers result (joined self.now name.now) }
     {
-        let names = self.held.as_slice();
-        if names.len() >= MAX_PATH_NAMES {
+        if self.held.as_slice().len() >= MAX_PATH_NAMES {
             return Err(PathFault::TooDeep);
         }
-        let mut names = with_room(alloc, names, 1)?;
-        names.push(name.copy(alloc)?)?;
-        Ok(Path {
-            held: shared(names)?,
-        })
+        Ok(self.child(alloc, name)?)
     }
 
     /// The path with one name more, as `join` answers it. It shares the names of a way that goes on by that name.

@@ -6,10 +6,9 @@ ghost use Rattle.fx_watch.specs.Lines.{valid_line};
 use fx_base::NoMemory;
 use fx_board::Event;
 use fx_report::add_event_line;
-use std::alloc::Global;
 
-/// Adds the line of an event.
-pub(crate) fn add_event(_alloc: Global, output: &mut Vec<u8>, event: Event) -> Result<(), NoMemory>
+/// Adds the line of an event, and lets the event go.
+pub(crate) fn add_event(output: &mut Vec<u8>, event: Event) -> Result<(), NoMemory>
     ensures { OnOk result (output.new.items ≡ output.old.items ++ event_line event) }
 {
     add_event_line(output, &event)

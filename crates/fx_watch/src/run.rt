@@ -14,7 +14,7 @@ use crate::watch::Watch;
 use crate::watching::Watching;
 use fx_base::{NoMemory, Steps};
 use fx_board::{Board, Retries};
-use fx_report::report;
+use fx_report::add_report;
 use fx_sched::play;
 use fx_spec::Base;
 use fx_store::LongText;
@@ -76,7 +76,7 @@ fn run_by<B: Based>(
     let Watching { watch, output, .. } = watching;
     watch.let_go();
     match ended {
-        Ok((board, retries)) => match with_report(alloc, output, &board, &retries) {
+        Ok((board, retries)) => match with_report(output, &board, &retries) {
             Ok(output) => Ok((board, output)),
             Err(fault) => {
                 board.let_go();
@@ -88,17 +88,11 @@ fn run_by<B: Based>(
 }
 
 /// Lines, and behind them the report of a log.
-fn with_report(
-    alloc: Global,
-    mut lines: Vec<u8>,
-    board: &Board,
-    retries: &Retries,
-) -> Result<LongText, NoMemory>
+fn with_report(mut lines: Vec<u8>, board: &Board, retries: &Retries) -> Result<LongText, NoMemory>
     ensures { IfOk result (λ output. output
         ≡ lines.items ++ report board.now.base board.now.order retries.now) }
 {
-    let report = report(alloc, board, retries)?;
-    lines.extend_from_slice(report.as_slice())?;
+    add_report(&mut lines, board, retries)?;
     Ok(LongText::from_vec(lines))
 }
 

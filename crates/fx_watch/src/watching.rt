@@ -37,7 +37,7 @@ impl<B: Based> Taker for Watching<B> {
 
     fn take(&mut self, alloc: Global, world: &World, event: Event) -> Result<(), NoMemory> {
         let settled = settled_entry(&event);
-        add_event(alloc, &mut self.output, event)?;
+        add_event(&mut self.output, event)?;
         match settled {
             Some(entry) => {
                 let valid = valid_after::<Brand>(

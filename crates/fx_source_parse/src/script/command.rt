@@ -1,6 +1,4 @@
 //! Commands and blocks of them.
-ghost use Rattle.std.specs.Prelude.{◌≡◌};
-ghost use Rattle.std.specs.Option.{option_map};
 ghost use Rattle.fx_parse.specs.Reader.{kinds, read_expr};
 ghost use Rattle.fx_parse.specs.ShapeReader.{read_shape};
 ghost use Rattle.fx_parse.specs.Stuck.{Gives};

@@ -6,7 +6,7 @@ use Rattle.fx_edit.proofs.Naming.{naming_first, naming_next, naming_wrong, namin
 use Rattle.fx_edit.proofs.nodes.names_of.Goals as goal
 
 pub loop-text-init : goal.loop-text-init
-loop-text-init c = naming_first c.args.texts.now c.new-names.result.items c.into_iter-text-iterator.result c.new-names.ensures.items (c.into_iter-text-iterator.ensures.into_iter_gives ∙ c.iter-text-items.ensures)
+loop-text-init c = naming_first c.args.texts.now c.in_ok-names.names.items c.into_iter-text-iterator.result c.in_ok-names.ensures.items (c.into_iter-text-iterator.ensures.into_iter_gives ∙ c.iter-text-items.ensures)
 
 pub loop-text-preserved : goal.loop-text-preserved
 loop-text-preserved c =
@@ -14,7 +14,7 @@ loop-text-preserved c =
 
 pub returns-in_err-next_name-clause-names : goal.returns-in_err-next_name-clause-names
 returns-in_err-next_name-clause-names c =
-    told_on (λ name. name) (λ names. Dir names) (name_read c.in-Some.text.now) (edit.names_node c.args.texts.now) (λ refusal is. naming_wrong c.args.texts.now c.loop-text.names.items c.loop-text.text-iterator c.next.new.self c.in-Some.text.now refusal c.loop-text.invariant c.in-Some.ensures.steps is) c.from_residual.result c.in_err-next_name.field-0.0 c.from_residual.ensures.1 c.in_err-next_name.ensures
+    told_on (λ name. name) (λ names. Dir names) (name_read c.in-Some.text.now) (edit.names_node c.args.texts.now) (λ refusal is. naming_wrong c.args.texts.now c.loop-text.names.items c.loop-text.text-iterator c.next.new.self c.in-Some.text.now refusal c.loop-text.invariant c.in-Some.ensures.steps is) c.from_residual-in_err-next_name.result c.in_err-next_name.field-0.0 c.from_residual-in_err-next_name.ensures.1 c.in_err-next_name.ensures
 
 pub from_parts-requires-clause-set : goal.from_parts-requires-clause-set
 from_parts-requires-clause-set c = naming_set c.args.texts.now c.loop-text.names.items c.loop-text.text-iterator c.loop-text.invariant c.in-None.ensures.steps.0 c.len-len.ensures.order
