@@ -39,7 +39,10 @@ def listed_files(path: str, count: int) -> None:
 def looking(
     kind: str, schedule: list[str], script: str, count: int, goals: Goals = ()
 ) -> measure.Line:
-    """A line of a transaction over `count` listed files."""
+    """A line of a transaction over `count` listed files, in seconds of processor.
+
+    Load and save may take longer, and differ by more than the transaction takes.
+    """
     with tempfile.TemporaryDirectory() as scratch:
         folder = os.path.join(scratch, "in")
         listed_files(folder, count)
@@ -54,7 +57,9 @@ def looking(
             *schedule,
             shell,
         ]
-        ran, seconds, more, _ = measure.beyond(scratch, words_of, "txn { }\n", script, REPEATS)
+        ran, seconds, more, _ = measure.beyond(
+            scratch, words_of, "txn { }\n", script, REPEATS, measure.By.PROCESSOR
+        )
     if b"\nentry 0 shell 0 txn 0 done\n" not in ran.out:
         sys.exit(f"the transaction was refused: {ran.out[-200:]!r}")
     return measure.Line(kind, count, seconds, ran.peak_kib, more=more, goals=goals)

@@ -25,7 +25,7 @@ DESCRIPTION = '("f00000" :: file)\n'
 SCRIPT = "txn { down fetch x : str }\n"
 REPORT = b"forest report 1\nentries 1\nentry 0 shell 0 txn 0 done\nretries 0\nend\n"
 REPEATS = 5
-REPEATS_ON_DISK = 1
+REPEATS_ON_DISK = 3
 # Of 20,000 files and more.
 LARGE = 20_000
 CP, CALLS = "cp -r", "the calls alone"

@@ -59,16 +59,19 @@ def in_memory(counters: int, shells: list[list[Step]]) -> float:
 
 
 def insertions(there: int, count: int) -> float:
-    """Adds `count` names to a table of names in memory, a transaction each."""
+    """Adds `count` names to a table of names in memory, a transaction each.
+
+    It tells seconds of processor.
+    """
     connection = sqlite3.connect(":memory:", isolation_level=None)
     connection.execute("CREATE TABLE names (name TEXT PRIMARY KEY)")
     connection.executemany("INSERT INTO names VALUES (?)", [(f"f{i:05}",) for i in range(there)])
-    begin = time.monotonic()
+    begin = time.process_time()
     for i in range(count):
         connection.execute("BEGIN IMMEDIATE")
         connection.execute("INSERT INTO names VALUES (?)", (f"a{i:04}",))
         connection.execute("COMMIT")
-    return since(begin)
+    return since(begin, time.process_time)
 
 
 def look_ups(there: int, name: str, count: int) -> float:
