@@ -2,7 +2,8 @@
 
 `trace` of many transactions over 16 projects, each with a counter and a log: on projects that are
 drawn, and with all counts on two of them, where conflicts are frequent. And one transaction that
-goes through many files by `each`: reading, by `next` or by `to`, or storing.
+goes through many files by `each`: reading, by `next` or by `to`, or storing. It is done ten times
+in a run.
 """
 
 from __future__ import annotations
@@ -13,7 +14,7 @@ from collections.abc import Iterator
 
 import measure
 import sqlite_peer
-from goals import Goals, growth, of_peer, seconds
+from goals import MILLISECONDS, Goals, each, growth, of_peer, seconds
 from large import NUMBER, draws
 from looks import THROUGH, looking
 from threads import RETRIES, set_of
@@ -22,12 +23,14 @@ from trace import traced, write_scripts
 SIZES = [1_000, 10_000, 100_000]
 EACH_SIZES = [1_000, 4_000, 10_000, 16_000]
 REPEATS = 3
-LOOP = growth(4, 5)
+# So many loops of a run take longer than load and save.
+LOOPS = 10
 # What a line of so many has to reach.
 TRACED: dict[int, Goals] = {10_000: (of_peer(1.5),), 100_000: (of_peer(1.5), seconds(2))}
 CROWDED: dict[int, Goals] = {10_000: (of_peer(1.5),), 100_000: (seconds(2),)}
 RUNS: dict[int, Goals] = {100_000: (of_peer(1.5),)}
-LOOPED = {10_000: seconds(0.5)}
+# Below, more and more of the files leave the processor's caches.
+LOOPED: dict[int, Goals] = {10_000: (each(500, MILLISECONDS, LOOPS),), 16_000: (growth(4, 5),)}
 PROJECTS = "abcdefghijklmnop"
 DESCRIPTION = '{(p :: <n : ("count" :: file), ("log" :: dir)>) | p in %s}\n'
 COUNT = 'txn{to("%s")down into down fetch n:str store(text((int(n)+1)))}'
@@ -40,10 +43,10 @@ CHANGED = (
     "txn { into next fetch all : names into"
     ' each n in (all) { down fetch x : str store((x ++ "!")) up try end next } }\n'
 )
-EACH: list[tuple[str, str, Goals]] = [
-    ("run: files read by one `each`, by `next`", THROUGH, ()),
-    ("run: files read by one `each`, by `to`", TO, (LOOP,)),
-    ("run: files changed by one `each`", CHANGED, (LOOP,)),
+EACH = [
+    ("run: files read by ten `each`, by `next`", THROUGH),
+    ("run: files read by ten `each`, by `to`", TO),
+    ("run: files changed by ten `each`", CHANGED),
 ]
 
 
@@ -118,7 +121,6 @@ def lines(sizes: list[int]) -> Iterator[measure.Line]:
     """The lines of this bench, of these sizes or its own."""
     for count in sizes or SIZES:
         yield from projects(count)
-    for kind, script, goals in EACH:
+    for kind, script in EACH:
         for count in sizes or EACH_SIZES:
-            more = (LOOPED[count],) if goals and count in LOOPED else ()
-            yield looking(kind, [], script, count, (*goals, *more))
+            yield looking(kind, [], script, count, LOOPED.get(count, ()), LOOPS)

@@ -20,10 +20,10 @@ from names import empty_files
 SIZES = [500, 1_000, 2_000]
 ADDED = [500, 2_000]
 ADDED_REPEATS = 3
-CREATED = 1_000
+CREATED = 2_300
 CREATED_AMONG = [5_000, 50_000]
 BEFORE, BEHIND = "a", "z"
-CREATED_REPEATS = 5
+CREATED_REPEATS = 7
 CREATE = 'txn{to("%s")down create}\n'
 NAMES = 50_000
 MOVE_REPEATS = 5
