@@ -29,8 +29,8 @@ LOOPS = 10
 TRACED: dict[int, Goals] = {10_000: (of_peer(1.5),), 100_000: (of_peer(1.5), seconds(2))}
 CROWDED: dict[int, Goals] = {10_000: (of_peer(1.5),), 100_000: (seconds(2),)}
 RUNS: dict[int, Goals] = {100_000: (of_peer(1.5),)}
-# Below, more and more of the files leave the processor's caches.
-LOOPED: dict[int, Goals] = {10_000: (each(500, MILLISECONDS, LOOPS),), 16_000: (growth(4, 5),)}
+LOOP = growth(4, 5)
+LOOPED = {10_000: each(500, MILLISECONDS, LOOPS)}
 PROJECTS = "abcdefghijklmnop"
 DESCRIPTION = '{(p :: <n : ("count" :: file), ("log" :: dir)>) | p in %s}\n'
 COUNT = 'txn{to("%s")down into down fetch n:str store(text((int(n)+1)))}'
@@ -43,10 +43,10 @@ CHANGED = (
     "txn { into next fetch all : names into"
     ' each n in (all) { down fetch x : str store((x ++ "!")) up try end next } }\n'
 )
-EACH = [
-    ("run: files read by ten `each`, by `next`", THROUGH),
-    ("run: files read by ten `each`, by `to`", TO),
-    ("run: files changed by ten `each`", CHANGED),
+EACH: list[tuple[str, str, Goals]] = [
+    ("run: files read by ten `each`, by `next`", THROUGH, ()),
+    ("run: files read by ten `each`, by `to`", TO, (LOOP,)),
+    ("run: files changed by ten `each`", CHANGED, (LOOP,)),
 ]
 
 
@@ -121,6 +121,7 @@ def lines(sizes: list[int]) -> Iterator[measure.Line]:
     """The lines of this bench, of these sizes or its own."""
     for count in sizes or SIZES:
         yield from projects(count)
-    for kind, script in EACH:
+    for kind, script, goals in EACH:
         for count in sizes or EACH_SIZES:
-            yield looking(kind, [], script, count, LOOPED.get(count, ()), LOOPS)
+            more = (LOOPED[count],) if goals and count in LOOPED else ()
+            yield looking(kind, [], script, count, (*goals, *more), LOOPS)
