@@ -7,7 +7,7 @@ use Rattle.std.proofs.lemmas.List.{append-nil, length-append, take_more, take_al
 use Rattle.std.proofs.lemmas.List.Concat.{flat_map-append}
 use Rattle.std.proofs.lemmas.List.Edits.{insert-append_left, insert-append_right, remove-append_left, remove-append_right}
 use Rattle.std.proofs.lemmas.Option.{slice_get_within, get_or_from_slice_get, slice_get-get_or, none-some}
-use Rattle.fx_base.specs.Chunks.{Piece, AreChunks, IsChunkOf, joined}
+use Rattle.fx_base.specs.Chunks.{Piece, AreChunks, AreCounted, IsChunkOf, joined, from_last}
 
 module _ {X : Type 0} where
   get_right : (xs ys : List X) (i n : ℕ) → length xs ≡ n → n ≤ i → slice_get (xs ++ ys) i ≡ slice_get ys (i - n)
@@ -174,3 +174,80 @@ module _ {X : Type 0} where
 
   pub cut : (old xs ys zs : List X) (n : ℕ) → ys ≡ take n xs → zs ≡ drop n xs → (old ++ ys) ++ zs ≡ old ++ xs
   cut old xs ys zs n front back = append_assoc old ys zs ∙ ap (λ ws. old ++ ws) ((λ i. front i ++ back i) ∙ take-append-drop n xs)
+
+  -- one part more, which comes first
+  pub from_last-push : {V : Type 0} (items : V → List X) (parts : List V) (part : V) → from_last items (parts ++ part ∷ []) ≡ items part ++ from_last items parts
+  from_last-push items [] part = sym (append-nil (items part))
+  from_last-push items (first ∷ parts) part = ap (λ xs. xs ++ items first) (from_last-push items parts part) ∙ append_assoc (items part) (from_last items parts) (items first)
+
+  module _ {V : Type 0} (items : V → List X) (all : List X) where
+    -- the back of what is left becomes a part
+    pub cut_off : (left front : List X) (parts longer : List V) (part : V) (n : ℕ) → front ≡ take n left → items part ≡ drop n left → longer ≡ parts ++ part ∷ [] → left ++ from_last items parts ≡ all → front ++ from_last items longer ≡ all
+    cut_off left front parts longer part n kept back more is =
+        (λ i. kept i ++ from_last items (more i))
+        ∙ ap (λ xs. take n left ++ xs) (from_last-push items parts part ∙ ap (λ ys. ys ++ from_last items parts) back)
+        ∙ sym (append_assoc (take n left) (drop n left) (from_last items parts))
+        ∙ ap (λ xs. xs ++ from_last items parts) (take-append-drop n left)
+        ∙ is
+
+    -- the part that comes first is added
+    pub joined_on : (before after : List X) (old fewer : List V) (part : V) → after ≡ before ++ items part → old ≡ fewer ++ part ∷ [] → before ++ from_last items old ≡ all → after ++ from_last items fewer ≡ all
+    joined_on before after old fewer part more popped is =
+        ap (λ xs. xs ++ from_last items fewer) more
+        ∙ append_assoc before (items part) (from_last items fewer)
+        ∙ ap (λ xs. before ++ xs) (sym (from_last-push items fewer part) ∙ ap (from_last items) (sym popped))
+        ∙ is
+
+  -- ---- a chunk with other items, and the counts behind it
+
+  joined_behind : (cs : List (Piece X)) (k : ℕ) (d : Piece X) → k < length cs → joined (set cs k d) ≡ joined (take k cs) ++ (d.items ++ joined (drop (suc k) cs))
+  joined_behind [] k d lt = absurd (omega arith)
+  joined_behind (c ∷ cs) zero d lt = refl
+  joined_behind (c ∷ cs) (suc k) d lt = ap (λ ys. c.items ++ ys) (joined_behind cs k d (omega arith)) ∙ sym (append_assoc c.items (joined (take k cs)) (d.items ++ joined (drop (suc k) cs)))
+
+  -- another chunk in place of the one at k
+  pub joined-set : (cs : List (Piece X)) (k : ℕ) (d : Piece X) → k < length cs → joined (set cs k d) ≡ joined (take k cs) ++ (d.items ++ joined (drop (k + 1) cs))
+  joined-set cs k d lt = let next : suc k ≡ k + 1 = omega arith in joined_behind cs k d lt ∙ ap (λ n. joined (take k cs) ++ (d.items ++ joined (drop n cs))) next
+
+  -- from old chunks on: as many, with the same items, of which the first say how many stand before them
+  pub record Counting (old now : List (Piece X)) (i total : ℕ) : Type 0 where
+    pub counted : AreCounted now i
+    pub before : total ≡ length (joined (take i now))
+    pub few : total < 2 ^ 63
+    pub items : joined now ≡ joined old
+    pub long : length now ≡ length old
+
+  module _ (old now : List (Piece X)) (i total : ℕ) (is : Counting old now i total) (within : i < length now) (c d : Piece X) (stands : c.before ≡ total) (same : c.items ≡ (get_or now i d).items) where
+    counted_on : AreCounted (set now i c) (i + 1)
+    counted_on k e lt long = by (cases_lt k i)
+      where
+        by : (k < i) ⊎ (i ≤ k) → (get_or (set now i c) k e).before ≡ length (joined (take k (set now i c)))
+        by (inl earlier) =
+            let apart : k ≢ i = omega arith in
+            let few : k < length now = omega (arith, length-set now i c, long) in
+            ap (λ (f : Piece X). f.before) (get_or-set_other now i k c e apart) ∙ is.counted k e earlier few ∙ ap (λ es. length (joined es)) (sym (take-set-le k now i c (omega arith)))
+        by (inr from) =
+            let here : k ≡ i = omega arith in
+            ap (λ j. (get_or (set now i c) j e).before) here ∙ ap (λ (f : Piece X). f.before) (get_or-set_same now i c e within) ∙ stands ∙ is.before
+            ∙ ap (λ es. length (joined es)) (sym (take-set now i c)) ∙ ap (λ j. length (joined (take j (set now i c)))) (sym here)
+
+    pub counting_next : total + length c.items < 2 ^ 63 → Counting old (set now i c) (i + 1) (total + length c.items)
+    counting_next few = record {
+      counted = counted_on;
+      before =
+          let longer = ap length (joined-push (take i now) c) ∙ length-append (joined (take i now)) c.items in
+          let at = ap (λ es. length (joined es)) (take_more_set now i c within) in
+          let before = is.before in
+          omega arith;
+      few = few;
+      items = joined-set now i c within ∙ (ap (λ ys. joined (take i now) ++ (ys ++ joined (drop (i + 1) now))) same ∙ sym (split now i d within)) ∙ is.items;
+      long = length-set now i c ∙ is.long;
+    }
+
+  -- before a chunk stand fewer than 2 ^ 63 items
+  pub few_before : (cs : List (Piece X)) (k : ℕ) (d : Piece X) → AreChunks cs → k < length cs → (get_or cs k d).before < 2 ^ 63
+  few_before cs k d all lt =
+      let at = all.before k d lt in
+      let whole = ap length (split cs k d lt) ∙ length-append (joined (take k cs)) ((get_or cs k d).items ++ joined (drop (k + 1) cs)) in
+      let few = all.few in
+      omega arith

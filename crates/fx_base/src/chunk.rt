@@ -60,6 +60,14 @@ impl<T> Chunk<T> {
         })
     }
 
+    /// Says how many items stand before these.
+    pub(crate) fn stand(&mut self, before: usize)
+        ensures before { self.new.before ≡ before }
+        ensures items { self.new.items ≡ self.old.items }
+    {
+        self.before = before;
+    }
+
     /// Adds an item at the end. A refusal changes nothing.
     pub(crate) fn push(&mut self, item: T) -> Result<(), NoMemory>
     where

@@ -8,7 +8,7 @@ ghost use Rattle.fx_base.specs.Chunks.{AreChunks, joined, shared_list};
 use crate::NoMemory;
 use crate::chunk::Chunk;
 use crate::items::Items;
-use crate::table::{Table, chunk_at};
+use crate::table::{Table, chunk_at, cut};
 use std::alloc::{AllocError, Global};
 use std::cmp::Ordering;
 use std::marker::Model;
@@ -48,15 +48,11 @@ impl<T> Chunks<T> {
     /// The items of a vector, in its order.
     pub fn from_vec(alloc: Global, items: Vec<T>) -> Result<Chunks<T>, NoMemory>
     where
-        T: Clone + Drop,
-        requires copies { (x y : T) → T.is_clone x y → y ≡ x }
+        T: Drop,
         ensures { IfOk result (λ c. c ≡ items.items) }
     {
-        let mut table = Table::new(alloc);
-        for item in items {
-            table.push(alloc, item)?;
-        }
-        Chunks::of(alloc, table)
+        let parts = cut(alloc, items)?;
+        Chunks::of(alloc, Table::from_parts(alloc, parts)?)
     }
 
     fn of(alloc: Global, table: Table<T>) -> Result<Chunks<T>, NoMemory>

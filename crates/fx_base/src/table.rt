@@ -1,7 +1,7 @@
 //! A list in chunks.
 ghost use Rattle.std.specs.Prelude.{true, ◌≡◌, ◌+◌, ◌^◌, ◌<◌, ◌≤◌, ◌++◌, ◌∷◌, [], length, take, drop, OnOk, OnErr, IfOk, slice_get};
 ghost use Rattle.std.specs.Option.{option_copied};
-ghost use Rattle.fx_base.specs.Chunks.{AreChunks, IsChunkOf, joined};
+ghost use Rattle.fx_base.specs.Chunks.{AreChunks, AreCounted, IsChunkOf, joined, from_last};
 
 use crate::NoMemory;
 use crate::chunk::Chunk;
@@ -111,6 +111,22 @@ impl<T> Table<T> {
         self.add(alloc, items)
     }
 
+    /// The items of these parts, of which the last comes first, each a chunk.
+    pub(crate) fn from_parts(alloc: Global, parts: Vec<Vec<T>>) -> Result<Table<T>, NoMemory>
+    where
+        T: Drop,
+        ensures { IfOk result (λ t. t ≡ from_last (λ part. part.items) parts.items) }
+    {
+        let mut left = parts;
+        let mut table = Table {
+            chunks: Vec::with_capacity(alloc, left.len())?,
+        };
+        'joining: while let Some(part) = left.pop() {
+            table.add(alloc, part)?;
+        }
+        Ok(table)
+    }
+
     /// Adds these items at the end, in chunks.
     pub(crate) fn add_cut(&mut self, alloc: Global, items: Vec<T>) -> Result<(), NoMemory>
     where
@@ -150,6 +166,27 @@ impl<T> Table<T> {
     ) -> Result<Table<T>, NoMemory>
     where
         T: Drop,
+        requires within { k < length chunks.now }
+        requires chunks { AreChunks chunks.now }
+        ensures { IfOk result
+            (λ t. t ≡ joined (take k chunks.now) ++ (items.items ++ joined (drop (k + 1) chunks.now))) }
+    {
+        if items.is_empty() || items.len() > LONGEST {
+            Table::cut_at(alloc, chunks, k, items)
+        } else {
+            Table::replaced(alloc, chunks, k, items)
+        }
+    }
+
+    // The same, where the items are none, or too many for a chunk.
+    fn cut_at(
+        alloc: Global,
+        chunks: &[Chunk<T>],
+        k: usize,
+        items: Vec<T>,
+    ) -> Result<Table<T>, NoMemory>
+    where
+        T: Drop,
         requires { k < length chunks.now }
         ensures { IfOk result
             (λ t. t ≡ joined (take k chunks.now) ++ (items.items ++ joined (drop (k + 1) chunks.now))) }
@@ -162,6 +199,61 @@ impl<T> Table<T> {
         table.share_all(&chunks[k + 1..])?;
         Ok(table)
     }
+
+    // The same, with one chunk of the items.
+    fn replaced(
+        alloc: Global,
+        chunks: &[Chunk<T>],
+        k: usize,
+        items: Vec<T>,
+    ) -> Result<Table<T>, NoMemory>
+    where
+        T: Drop,
+        requires within { k < length chunks.now }
+        requires chunks { AreChunks chunks.now }
+        ensures { IfOk result
+            (λ t. t ≡ joined (take k chunks.now) ++ (items.items ++ joined (drop (k + 1) chunks.now))) }
+    {
+        let before = chunks[k].before();
+        let mut list = Vec::from_clones(alloc, chunks)?;
+        list[k] = Chunk::new(alloc, before, items)?;
+        count_from(&mut list, k, before)?;
+        Ok(Table { chunks: list })
+    }
+}
+
+// Counts again from a chunk on, before which there are so many items.
+fn count_from<T>(chunks: &mut Vec<Chunk<T>>, k: usize, before: usize) -> Result<(), NoMemory>
+    requires counted { AreCounted chunks.old.items k }
+    requires before { before ≡ length (joined (take k chunks.old.items)) }
+    requires few { before < 2 ^ 63 }
+    requires within { k ≤ length chunks.old.items }
+    ensures chunks { OnOk result (AreChunks chunks.new.items) }
+    ensures items { OnOk result (joined chunks.new.items ≡ joined chunks.old.items) }
+{
+    let mut total = before;
+    for i in k..chunks.len() {
+        chunks[i].stand(total);
+        let len = chunks[i].items().len();
+        if len > MOST - total {
+            return Err(NoMemory);
+        }
+        total += len;
+    }
+    Ok(())
+}
+
+// The items in parts that a chunk takes, from the last part to the first. Each is moved once.
+pub(crate) fn cut<T: Drop>(alloc: Global, items: Vec<T>) -> Result<Vec<Vec<T>>, NoMemory>
+    ensures { IfOk result (λ parts. from_last (λ part. part.items) parts.items ≡ items.items) }
+{
+    let mut left = items;
+    let mut parts = Vec::new(alloc);
+    'cutting: while !left.is_empty() {
+        let part = left.split_off(left.len().saturating_sub(LONGEST))?;
+        parts.push(part)?;
+    }
+    Ok(parts)
 }
 
 // Whether there is a last chunk that takes another item.

@@ -1,14 +1,12 @@
 -- Parts of the rules of edits, as the code goes through them.
-use Rattle.std.specs.Prelude.{◌≡◌, ℕ, ◌+◌, Bool, true, false, cond, List, [], ◌∷◌, ◌++◌, drop, slice_get, length, ◌-◌, ◌<◌, Option, Some, None, Ok}
+use Rattle.std.specs.Prelude.{◌≡◌, ℕ, ◌+◌, Bool, true, false, List, [], ◌∷◌, ◌++◌, drop, slice_get, length, ◌-◌, ◌<◌, ◌≤◌, Option, Some, None, Ok}
 use Rattle.fx_store.specs.declared.node.Node.{Node}
 use Rattle.fx_store.specs.declared.node.Node.TheVariants.{File, Dir}
 use Rattle.fx_store.specs.declared.changes.Change.{Change}
 use Rattle.fx_store.specs.Changes.{changed_paths}
 use Rattle.fx_store.specs.Resolve.{◌/ₚ◌, parent, resolve}
 use Rattle.fx_store.specs.Rule.{Ask, Answer, Look, look_all, ◌>>=◌}
-use Rattle.fx_store.specs.Names.{has}
-use Rattle.fx_text.specs.Merges.{IsLeastOf}
-use Rattle.fx_expr.specs.Sets.{set_of, with_text}
+use Rattle.fx_expr.specs.Sets.{IsAscending, set_of, with_text}
 use Rattle.fx_spec.specs.Edit.{set_to, removed, names_of, entry, entries, clear, children, without_name, follows_last, store_landed, create_landed, remove_landed}
 use Rattle.fx_spec.specs.Move.{Answered}
 
@@ -80,11 +78,6 @@ create_there path node = resolve path false >>= create_landed path node
 abbrev pub remove_there : List (List ℕ) → Ask (Answered (List Change))
 remove_there path = resolve path false >>= remove_landed path
 
--- the names of a set without its first, where that is the one that is gone through
-abbrev pub names_left : Bool → List (List ℕ) → List (List ℕ)
-names_left true names = drop 1 names
-names_left false names = names
-
 -- an empty file at a new name, where it is looked at before
 abbrev pub added_file : List (List ℕ) → Ask (List Change)
 added_file q = Look q (λ node. Answer (set_to q (File [] false) ∷ []))
@@ -93,26 +86,23 @@ added_file q = Look q (λ node. Answer (set_to q (File [] false) ∷ []))
 abbrev pub changed_entries : List (List ℕ) → List (List ℕ) → List (List ℕ) → Ask (List Change)
 changed_entries q old new = entries (entry q old new) (set_of (old ++ new))
 
--- what is done at a name, by whether the old names have it and whether the new ones do
-abbrev pub change_at_name : List (List ℕ) → List ℕ → Bool → Bool → Ask (List Change)
-change_at_name q n old new =
-    let added = added_file (q /ₚ n) in
-    let dropped = clear (q /ₚ n) in
-    cond new (cond old (Answer []) added) dropped
+-- what is done at a name that only the new names have, or only the old ones
+abbrev pub changed_name : List (List ℕ) → List ℕ → Bool → Ask (List Change)
+changed_name q n true = added_file (q /ₚ n)
+changed_name q n false = clear (q /ₚ n)
 
--- whether the set has the name is known: it is the set's first, or none of it
-abbrev pub IsFirst : Bool → List (List ℕ) → List ℕ → Type 0
-IsFirst true names n = names ≡ n ∷ drop 1 names
-IsFirst false names n = has names n ≡ false
+-- a directory that lists the second names in place of the first has no entry to change
+abbrev pub AreAlike : List (List ℕ) → List (List ℕ) → Type 0
+AreAlike a b = (q : List (List ℕ)) (before : List Change) → adding before (changed_entries q a b) ≡ Answer before
 
--- the name is the least of two sets, and each has it or not
-pub record IsLeastName (a b : List (List ℕ)) (n : List ℕ) (x y : Bool) : Type 0 where
-  pub least : IsLeastOf a b n (names_left x a) (names_left y b)
-  pub first : IsFirst x a n
-  pub second : IsFirst y b n
+-- the first of its entries to change is the one of this name, and those of what is left of both sets are the others
+pub record IsNextChange (a b : List (List ℕ)) (n : List ℕ) (new : Bool) (c d : List (List ℕ)) : Type 0 where
+  pub changes : (q : List (List ℕ)) (before : List Change) → adding before (changed_entries q a b) ≡ (adding before (changed_name q n new) >>= λ now. adding now (changed_entries q c d))
+  pub some : new ≡ true → 0 < length b
+  pub smaller : length c + length d < length a + length b
 
--- and these are left of the two sets without it
-pub record IsNextOf (a b : List (List ℕ)) (n : List ℕ) (x y : Bool) (c d : List (List ℕ)) : Type 0 where
-  pub next : IsLeastName a b n x y
-  pub olds : c ≡ names_left x a
-  pub news : d ≡ names_left y b
+-- what is left of both sets of names ascends, and the new names are no more than these
+pub record AreLeft (new a b : List (List ℕ)) : Type 0 where
+  pub olds : IsAscending a
+  pub news : IsAscending b
+  pub few : length b ≤ length new

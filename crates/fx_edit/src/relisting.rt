@@ -1,11 +1,11 @@
 //! A directory that lists other names from now on.
-ghost use Rattle.std.specs.Prelude.{◌≡◌, ◌<◌, ◌++◌, ◌∷◌, [], true, false, length, IfOk, MatchOption};
+ghost use Rattle.std.specs.Prelude.{◌≡◌, ◌<◌, ◌∷◌, [], true, false, length, IfOk, MatchOption};
 ghost use Rattle.fx_store.specs.declared.node.Node.TheVariants.{Dir};
 ghost use Rattle.fx_store.specs.Resolve.{◌/ₚ◌};
-ghost use Rattle.fx_expr.specs.Sets.{IsAscending, set_of};
+ghost use Rattle.fx_expr.specs.Sets.{IsAscending};
 ghost use Rattle.fx_spec.specs.Edit as edit;
 ghost use Rattle.fx_session.specs.Implements.{Implements};
-ghost use Rattle.fx_edit.specs.Rules.{adding, added_file, changed_entries, change_at_name, IsNextOf};
+ghost use Rattle.fx_edit.specs.Rules.{adding, added_file, changed_entries, changed_name, AreAlike, AreLeft, IsNextChange};
 
 use crate::clearing::clear_entry;
 use crate::edits::Edits;
@@ -62,57 +62,73 @@ fn change_entries<R: Reader, L: Ledger>(
 {
     let mut olds = list.old.iter();
     let mut news = list.new.iter();
-    while let Some((name, in_old, in_new, other_olds, other_news)) = next_name(olds, news) {
-        change_entry(session, list, name, in_old, in_new, edits)?;
-        olds = other_olds;
-        news = other_news;
+    while let Some((name, is_new)) = next_change(&mut olds, &mut news) {
+        change_entry(session, list, name, is_new, edits)?;
     }
     Ok(())
 }
 
-/// A name, whether each of two sets has it, and what is left of them.
-type Next<'a> = (&'a Name, bool, bool, Items<'a, Name>, Items<'a, Name>);
-
-/// The least name of two sets, and what is left of them without it.
-fn next_name<'a>(olds: Items<'a, Name>, news: Items<'a, Name>) -> Option<Next<'a>>
-    requires olds { IsAscending olds }
-    requires news { IsAscending news }
-    ensures { MatchOption result (set_of (olds.entry ++ news.entry) ≡ [])
-        (λ r. IsNextOf olds.entry news.entry r.0.now r.1 r.2 r.3 r.4) }
+/// The least name that one of two sets has and the other lacks, and whether it is a new one. Both sets go on behind it, or to
+/// their ends.
+fn next_change<'a>(
+    olds: &mut Items<'a, Name>,
+    news: &mut Items<'a, Name>,
+) -> Option<(&'a Name, bool)>
+    requires olds { IsAscending olds.old }
+    requires news { IsAscending news.old }
+    ensures left { AreLeft news.old olds.new news.new }
+    ensures next { MatchOption result (AreAlike olds.old news.old)
+        (λ r. IsNextChange olds.old news.old r.0.now r.1 olds.new news.new) }
 {
-    match (olds.split_first(), news.split_first()) {
-        (None, None) => None,
-        (Some((name, rest)), None) => Some((name, true, false, rest, news)),
-        (None, Some((name, rest))) => Some((name, false, true, olds, rest)),
-        (Some((name, rest)), Some((other, others))) => match name.cmp(other) {
-            Ordering::Less => Some((name, true, false, rest, news)),
-            Ordering::Equal => Some((name, true, true, rest, others)),
-            Ordering::Greater => Some((other, false, true, olds, others)),
-        },
+    while let Some((name, rest)) = olds.split_first() {
+        match news.split_first() {
+            None => {
+                *olds = rest;
+                return Some((name, false));
+            }
+            Some((other, others)) => match name.cmp(other) {
+                Ordering::Less => {
+                    *olds = rest;
+                    return Some((name, false));
+                }
+                Ordering::Equal => {
+                    *olds = rest;
+                    *news = others;
+                }
+                Ordering::Greater => {
+                    *news = others;
+                    return Some((other, true));
+                }
+            },
+        }
+    }
+    match news.split_first() {
+        None => None,
+        Some((other, others)) => {
+            *news = others;
+            Some((other, true))
+        }
     }
 }
 
-/// Adds the changes of one entry, by whether the old and the new names have it: one that stays is not touched.
+/// Adds the changes of an entry that only the new names have, or only the old ones.
 fn change_entry<R: Reader, L: Ledger>(
     session: &mut Session<'_, R, L>,
     list: &Relist,
     name: &Name,
-    in_old: bool,
-    in_new: bool,
+    is_new: bool,
     edits: &mut Edits,
 ) -> Result<(), Stop>
     requires room { edit.lacks_room list.now.path (Dir list.now.new) ≡ false }
-    requires new { in_new ≡ true → 0 < length list.now.new }
+    requires new { is_new ≡ true → 0 < length list.now.new }
     ensures follows { Implements R.meaning (λ u. edits.new) session.old session.new
-        (adding edits.old (change_at_name list.now.path name.now in_old in_new)) result }
+        (adding edits.old (changed_name list.now.path name.now is_new)) result }
 {
-    if !in_new {
-        return clear_entry(session, &list.path, name, edits);
+    if is_new {
+        add_file(session, list, name, edits)
+    } else {
+        clear_entry(session, &list.path, name, edits)
     }
-    if in_old {
-        return Ok(());
-    }
-    add_file(session, list, name, edits)
 }
 
 /// Adds an empty file at a new name.

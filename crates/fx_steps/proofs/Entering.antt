@@ -1,11 +1,17 @@
 -- Where moves lead from a place, form by form.
 use Rattle.fx_steps.proofs.Prelude.{ReadList, ◌≡◌, ℕ, ◌+◌, ◌≤◌, true, List, [], ◌∷◌, take, Option, Some, None, Result, Ok, Err, refl, sym, ap, ◌∙◌, subst, arith, IsErrAnd, IfOk, Known, Ask, Answer, Tick, Outcome, eval_of, names_in, ExprTree}
 use Rattle.fx_steps.proofs.Prelude.{has_text, ShapeTree, Refusal, Bindings, arguments, argument_evals, behind, Answered, element, chosen, with_arguments, go_into, Step, Body, Elem, Address, lead, SpecTree, Stop, err_of, Halt, answered, split}
-use Rattle.fx_steps.proofs.Prelude.{Entry, Spot, LeadsToSpot, LeadsAt, Enters, EntersAt, Chooses, BindsNames, step_tree, told, costs, Says, set_answer, names_answer, arguments_tried, inner_names, Meaning, known_of, Session, IsSetOf}
+use Rattle.fx_steps.proofs.Prelude.{Chosen, Entry, Spot, First, as_entry, chosen_entry, inner_entry, LeadsToSpot, LeadsAt, Enters, EntersAt, Chooses, BindsNames, Tree, tree_of, step_tree, told, costs, Says, set_answer, names_answer, arguments_tried, inner_names, Meaning, known_of, Session, IsSetOf}
 use Rattle.fx_view.specs.declared.reader.Stop.TheVariants as stop
 use Rattle.fx_session.specs.declared.halt.Halt.TheVariants as halt
 use Rattle.fx_steps.proofs.Arguments.{told_behind, costs_behind, with_names, without_names, with_all, with_fault}
-use Rattle.fx_steps.proofs.Leads.{element_leads, body_leads}
+use Rattle.fx_expr.specs.Views.{tree_step}
+use Rattle.fx_expr.specs.declared.value.Value.{fold-roll-Value}
+use Rattle.fx_expr.specs.declared.value.Value.TheOpen.{Value-F}
+use Rattle.fx_expr.specs.declared.value.Value.TheVariants as values
+use Rattle.fx_expr.specs.declared.value.Value.TheVariants.{rolls-Str}
+use Rattle.fx_steps.specs.declared.frame.Inner.TheVariants as inner
+use Rattle.fx_steps.proofs.Leads.{first_leads, element_leads, body_leads}
 use Rattle.fx_steps.proofs.Telling.{told_found}
 
 -- what is kept at a comprehension
@@ -23,6 +29,24 @@ leads_step known own step other p env s spot e h = subst (λ t. LeadsToSpot know
 pub chosen_is : (a : Address) (f : List (List ℕ) → Option (List ℕ)) (o : Outcome) (set : List (List ℕ)) → set_answer o ≡ Ok set → chosen a f o ≡ element a (f set)
 chosen_is a f (Ok v) set h = let same : names_in v ≡ set = cc in ap (λ set. element a (f set)) same
 chosen_is a f (Err g) set h = absurd (cc)
+
+-- what is not found is no entry
+pub as_err : {X : Type 0} (entry : X → Entry) (r : Result X Halt) (why : Halt) → IsErrAnd r (λ d. d ≡ why) → IsErrAnd (as_entry entry r) (λ d. d ≡ why)
+as_err entry (Ok x) why h = h
+as_err entry (Err e) why h = h
+
+text_tree : (t : List ℕ) → tree_of (values.Str t) ≡ Tree.str t
+text_tree t = ap tree_of (sym (rolls-Str t)) ∙ fold-roll-Value Tree tree_step (Value-F.Str t)
+
+-- the element that is chosen
+pub chooses : (p : List (List ℕ)) (x t : List ℕ) (set : List (List ℕ)) (choice : Option (List ℕ)) (c : Chosen) → choice ≡ Some t → c.name ≡ x → c.text ≡ t → c.set ≡ set → Chooses p x set choice (Ok (chosen_entry p c))
+chooses p x t set choice c is name text held = record {
+  says = λ a. ap (λ o. Some (element a o)) is ∙ (λ i. Some (Ok (Elem (sym text i) ∷ a)));
+  spot = λ u e.
+      let other : t ≡ u = cc in
+      let same : c.text ≡ u = text ∙ other in
+      (ap Elem same, record { path = refl; held = ap Some held; bound = ap (λ v. Some (c.name, v)) (text_tree c.text) ∙ (λ i. Some (name i, Tree.str (same i))) });
+}
 
 module _ (p : List (List ℕ)) (env : Bindings) (rule : Address → Ask (Answered Address)) (s : SpecTree) where
   abbrev At : ℕ → ℕ → Result Entry Halt → Type 0
@@ -59,6 +83,15 @@ module _ (p : List (List ℕ)) (env : Bindings) (rule : Address → Ask (Answere
 -- no step from the form
 pub none_from : (p : List (List ℕ)) (env : Bindings) (s other : SpecTree) (n : ℕ) → s ≡ other → ((a : Address) → go_into a p env other ≡ Answer (Err Refusal.NoStep)) → EntersAt (λ a. go_into a p env s) p env s n n (Err (halt.Refused Refusal.NoStep))
 none_from p env s other n is none = enters_none p env (λ a. go_into a p env s) s (λ a. ap (go_into a p env) is ∙ none a) n
+
+-- the first part of a pair
+pub first_enters : (p : List (List ℕ)) (env : Bindings) (x : List ℕ) (a b : SpecTree) (n : ℕ) → EntersAt (λ to. go_into to p env (SpecTree.pair x a b)) p env (SpecTree.pair x a b) n n (Ok (inner_entry p inner.First))
+first_enters p env x a b n =
+    let entry = inner_entry p inner.First in
+    record {
+      tells = λ to. record { says = refl; most = omega arith };
+      leads = λ known own. leads_at known own First p env (SpecTree.pair x a b) n n entry.spot (first_leads p env (SpecTree.pair x a b) x a b n entry.spot refl refl refl);
+    }
 
 -- the form is spelled in another way
 pub enters_form : {R L : Type 0} (m : Meaning R) (p : List (List ℕ)) (env : Bindings) (s form : SpecTree) (was now : Session R L) (r : Result Entry Halt) → s ≡ form → Enters m (λ a. go_into a p env form) p env form was now r → Enters m (λ a. go_into a p env s) p env s was now r

@@ -43,9 +43,10 @@ pub use Rattle.fx_session.specs.Scopes.{HasScope}
 pub use Rattle.fx_steps.specs.Around.{HasSet, IsSetOf, around}
 pub use Rattle.fx_steps.specs.Frames.{are_told, around_last, last_caller, last_set, last_step, path_of}
 pub use Rattle.fx_steps.specs.Parts.{IsNoCall, IsNoOption, child, part}
-pub use Rattle.fx_steps.specs.Spots.{BindsNames, BindsText, Chooses, Enters, EntersAt, IsSpot, LeadsAt, LeadsTo, LeadsToSpot, bound_name, caller_in, grown, spot_place}
+pub use Rattle.fx_steps.specs.Spots.{BindsNames, BindsText, Chooses, Enters, EntersAt, as_entry, chosen_entry, inner_entry, IsSpot, LeadsAt, LeadsTo, LeadsToSpot, bound_name, caller_in, grown, spot_place}
 pub use Rattle.fx_steps.specs.Steps.{step_tree, turned, turned_onto}
 pub use Rattle.fx_steps.specs.Telling.{AreWellShaped, OnlyCounts, Says, TellsWithin, arguments_tried, costs, given, names_answer, set_answer, told}
+pub use Rattle.fx_steps.specs.declared.frame.Chosen.{Chosen}
 pub use Rattle.fx_steps.specs.declared.frame.Entry.{Entry}
 pub use Rattle.fx_steps.specs.declared.frame.Frame.{Frame}
 pub use Rattle.fx_steps.specs.declared.frame.Spot.{Spot}

@@ -1,6 +1,6 @@
 -- Where a step leads, and what is kept of it.
 use Rattle.fx_view.specs.ReadList.{ReadList}
-use Rattle.std.specs.Prelude.{◌≡◌, ℕ, List, [], ◌∷◌, ◌++◌, take, Option, Some, None, Result, IfOk}
+use Rattle.std.specs.Prelude.{◌≡◌, ℕ, List, [], ◌∷◌, ◌++◌, take, Option, Some, None, Result, Ok, Err, IfOk}
 use Rattle.std.specs.Option.{IfSome, option_map, unwrap_or}
 use Rattle.fx_store.specs.Rule.{Known, Ask, Found, follow}
 use Rattle.fx_expr.specs.Tree.{Tree}
@@ -22,7 +22,12 @@ use Rattle.fx_steps.specs.declared.frame.Bound.{Bound}
 use Rattle.fx_steps.specs.declared.frame.Bound.TheVariants as bounds
 use Rattle.fx_steps.specs.declared.frame.Frame.{Frame}
 use Rattle.fx_steps.specs.declared.frame.Spot.{Spot}
+use Rattle.fx_steps.specs.declared.frame.Chosen.{Chosen}
 use Rattle.fx_steps.specs.declared.frame.Entry.{Entry}
+use Rattle.fx_steps.specs.declared.frame.Inner.{Inner}
+use Rattle.fx_steps.specs.declared.frame.Inner.TheVariants as inner
+use Rattle.fx_steps.specs.declared.step.Step.TheVariants as steps
+use Rattle.fx_expr.specs.declared.value.Value.TheVariants as values
 use Rattle.fx_steps.specs.Around.{around, IsHeldSet}
 use Rattle.fx_steps.specs.Parts.{child}
 use Rattle.fx_steps.specs.Steps.{step_tree}
@@ -93,6 +98,38 @@ pub record LeadsTo {R L : Type 0} (m : Meaning R) (step : Step) (p : List (List 
 pub record LeadsAt (step : Step) (p : List (List ℕ)) (env : Bindings) (spec : SpecTree) (was now : ℕ) (result : Result (Option Spot) Stop) : Type 0 where
   pub tells : TellsWithin (option_map (spot_place env (child step spec))) was now (lead step p env spec) result
   pub spot : IfOk result (λ o. IfSome o (IsSpot step env spec))
+
+-- the spot at a path, for a step that binds nothing
+abbrev pub bare_spot : List (List ℕ) → ℕ → Spot
+bare_spot p reads = record { path = p; set = None; reads = reads; bound = bounds.Nothing }
+
+-- the spot at a chosen element
+abbrev pub chosen_spot : List (List ℕ) → Chosen → Spot
+chosen_spot p chosen = record { path = p; set = Some chosen.set; reads = 0; bound = bounds.Name chosen.name (values.Str chosen.text) }
+
+-- the spot in a body, where these names are bound
+abbrev pub body_spot : List (List ℕ) → Bindings → Spot
+body_spot p names = record { path = p; set = None; reads = 0; bound = bounds.Names names }
+
+-- the entry at the path of a focus
+abbrev pub down_entry : List (List ℕ) → Entry
+down_entry p = record { step = steps.Down; spot = bare_spot p 0 }
+
+-- the entry at a chosen element of the place at a path
+abbrev pub chosen_entry : List (List ℕ) → Chosen → Entry
+chosen_entry p chosen = record { step = steps.Elem chosen.text; spot = chosen_spot p chosen }
+
+-- the entry at what stands inside the place at a path
+abbrev pub inner_entry : List (List ℕ) → Inner → Entry
+inner_entry p inner.First = record { step = steps.First; spot = bare_spot p 0 }
+inner_entry p (inner.Element chosen) = chosen_entry p chosen
+inner_entry p (inner.Entry reads) = record { step = steps.Inside; spot = bare_spot p reads }
+inner_entry p (inner.Body names) = record { step = steps.Body; spot = body_spot p names }
+
+-- what a move finds, as its entry
+abbrev pub as_entry : {X : Type 0} → (X → Entry) → Result X Halt → Result Entry Halt
+as_entry entry (Ok x) = Ok (entry x)
+as_entry entry (Err e) = Err e
 
 -- the call answers the entry of the step that the rule of a move adds
 pub record Enters {R L : Type 0} (m : Meaning R) (rule : Address → Ask (Answered Address)) (p : List (List ℕ)) (env : Bindings) (spec : SpecTree) (was now : Session R L) (result : Result Entry Halt) : Type 0 where

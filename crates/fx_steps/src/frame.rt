@@ -44,8 +44,26 @@ pub struct Entry {
     pub spot: Spot,
 }
 
+/// An element of a comprehension that was chosen, with the name that its step binds and the set of which it is one.
+#[derive(Drop)]
+pub struct Chosen {
+    pub name: Word,
+    pub text: Text,
+    pub set: TextSet,
+}
+
+/// What stands inside a place: the first part of a pair, an element, an entry that was found by so many reads, or a body with
+/// its names.
+#[derive(Drop)]
+pub enum Inner {
+    First,
+    Element(Chosen),
+    Entry(u64),
+    Body(Env),
+}
+
 /// The spot at a path, for a step that binds nothing.
-pub fn spot_at(path: Path, reads: u64) -> Spot
+pub(crate) fn spot_at(path: Path, reads: u64) -> Spot
     ensures path { result.path ≡ path }
     ensures reads { result.reads ≡ reads }
     ensures bound { result.bound ≡ bounds.Nothing }

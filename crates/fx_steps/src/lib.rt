@@ -14,6 +14,6 @@ mod step;
 
 pub use evaluating::evaluate;
 pub use forms::{comp_of, pair_of};
-pub use frame::{Bound, Entry, Frame, Spot, second_spot, spot_at};
+pub use frame::{Bound, Chosen, Entry, Frame, Inner, Spot, second_spot};
 pub use shapes::{asks_flag, has_fetch_shape, has_value_shape};
 pub use step::Step;

@@ -261,18 +261,6 @@ impl NameList {
         }
     }
 
-    /// The names of a list and the set of the same texts, of which the set is shared.
-    pub fn from_parts(alloc: Global, names: Vec<Name>, texts: &TextSet) -> Result<Names, NoMemory>
-        requires set { IsNameSet names.items }
-        requires same { texts.now ≡ names.items }
-        ensures { IfOk result (λ s. s ≡ names.items) }
-    {
-        Ok(Names {
-            texts: texts.copy(alloc)?,
-            names: Chunks::from_vec(alloc, names)?,
-        })
-    }
-
     /// The number of names.
     pub fn len(&self) -> u64
         ensures len { result ≡ length self.now }

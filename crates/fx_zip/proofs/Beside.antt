@@ -114,6 +114,10 @@ module _ (known : ReadList) (own : Known) (root : SpecTree) (f : List ℕ → Li
     both (step ∷ a) [] env e held found chooses = absurd (cc)
     both (step ∷ a) (g ∷ fs) env e held found chooses = both_of step a g fs env (cc) held found chooses
 
+-- the path of the zipper without its last step
+pub left_path : (known : ReadList) (own : Known) (z : ZipTree) → Stands known own z → path_of (left z).frames ≡ path_of (drop 1 z.frames)
+left_path known own z stands = ap (λ (w : ZipTree). path_of w.frames) (left_settled z (stands_settled known own z stands))
+
 -- what leads from the zipper without its last step
 leads_left : (known : ReadList) (own : Known) (z : ZipTree) → Stands known own z → (r : Result Entry Halt) → IfOk r (λ e. LeadsToSpot known own (step_tree e.step) (path_of (drop 1 z.frames)) (around_last z.address (last_caller z.frames) z.env) (part z.root (drop 1 z.address)) e.spot) → IfOk r (λ e. LeadsFrom known own (left z) e)
 leads_left known own z stands r h =

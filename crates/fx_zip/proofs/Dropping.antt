@@ -1,5 +1,5 @@
 -- The frames that are dropped after an edit.
-use Rattle.fx_zip.proofs.Prelude.{◌≡◌, ℕ, Bool, true, false, cond, drop, List, [], ◌∷◌, refl, sym, ap, ◌∙◌, subst, Known, ReadList, IsFresh, are_told, shorter, told_of, told_by, ZipTree, Frame}
+use Rattle.fx_zip.proofs.Prelude.{◌≡◌, ℕ, true, false, cond, drop, List, [], ◌∷◌, refl, sym, ap, ◌∙◌, Known, ReadList, IsFresh, are_told, shorter, told_of, told_by, ZipTree, Frame}
 
 -- dropping from here on gives what dropping from the start gives, and the frames are still those that were found
 pub record IsDropping (untouched : ℕ) (initial now : ZipTree) : Type 0 where

@@ -2,7 +2,7 @@
 use Rattle.fx_zip.proofs.Prelude.{ReadList, ◌≡◌, ℕ, ◌+◌, ◌≤◌, List, [], Option, Some, Result, Ok, Err, refl, sym, ap, ◌∙◌, subst, arith, IfOk, IsErrAnd, Known, Ask, Answer, answer, ticks, changed, ◌>>=◌, Store, Refusal, Answered, needed}
 use Rattle.fx_zip.proofs.Prelude.{unrefused, at_place, Address, PlaceTree, place, SpecTree, Bindings, from_place, IsDescription, HasScope, Stop, Meaning, known_of, Agrees, err_of, found_answer, Halt, answered, split, step_halt, Entry}
 use Rattle.fx_zip.proofs.Prelude.{OnRefused, place_needed, place_evals, Evaluates, Finds, Moves, Turns, Asks, IsSetOf, Stands, StandsIn, IsFreshIn, part, Enters, entered, step_tree, ZipTree, IsSettled, path_of, here, Implements, Answers}
-use Rattle.fx_zip.proofs.Prelude.{then_on, same_rule, refused, Session, own_at, OwnList}
+use Rattle.fx_zip.proofs.Prelude.{then_on, same_rule, Session, own_at, OwnList}
 use Rattle.fx_store.proofs.Asks.{ask-bind-assoc}
 use Rattle.fx_spec.specs.Evals.{evals_with}
 use Rattle.fx_view.specs.declared.reader.Stop.TheVariants as stop

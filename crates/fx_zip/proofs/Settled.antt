@@ -1,7 +1,7 @@
 -- Frames found one after another, from a start on.
 use Rattle.fx_zip.proofs.Prelude.{◌≡◌, ℕ, ◌+◌, List, [], ◌∷◌, ◌++◌, length, take, drop, Option, Some, None, Result, Ok, Err, refl, sym, ap, ◌∙◌, subst, arith, append_assoc, length-take, slice_get, slice_get_within, with_some, Address}
 use Rattle.fx_zip.proofs.Prelude.{PlaceTree, placed, lead, place, SpecTree, Stop, Meaning, Spot, IsSettling, AreFound, IsFreshIn, part, LeadsTo, kept_too, step_tree, turned, ZipTree, path_of, Implements, then_answers, then_on, stops}
-use Rattle.fx_zip.proofs.Prelude.{refused, Session, own_at}
+use Rattle.fx_zip.proofs.Prelude.{Session, own_at}
 use Rattle.fx_spec.specs.Place as place
 use Rattle.fx_view.specs.declared.reader.Stop.TheVariants as stop
 use Rattle.fx_steps.specs.declared.step.Step.{Step}

@@ -2,7 +2,7 @@
 use Rattle.std.specs.Prelude.{◌≡◌, ℕ, ◌+◌, ◌≤◌, false, List, [], ◌∷◌, Ok, Err, codes}
 use Rattle.fx_store.specs.declared.node.Node.TheVariants.{File, Dir}
 use Rattle.fx_store.specs.Examples.{store_of}
-use Rattle.fx_store.specs.Rule.{Known, Ask, answer, ticks, changed}
+use Rattle.fx_store.specs.Rule.{Ask, answer, ticks, changed}
 use Rattle.fx_store.specs.Whole.{Store}
 use Rattle.fx_expr.specs.ExprTree.{ExprTree}
 use Rattle.fx_expr.specs.ShapeTree.{ShapeTree}

@@ -6,6 +6,7 @@ ghost use Rattle.fx_zip.specs.Fresh.{IsFreshIn};
 use crate::zip::Zip;
 use fx_expr::Text;
 use fx_session::{Halt, Session};
+use fx_steps::Step;
 use fx_steps::moving::{down, into, to};
 use fx_view::Reader;
 use std::sync::ledger::Ledger;
@@ -21,8 +22,8 @@ impl Zip {
             session.old session.new move.go_down result }
     {
         self.find(session)?;
-        let entry = down(session, self.path(), self.env(), &self.spec())?;
-        Ok(self.enter(session.alloc, entry)?)
+        let path = down(session, self.path(), self.env(), &self.spec())?;
+        Ok(self.enter_at(Step::Down, path, 0)?)
     }
 
     /// To an element of a comprehension.
@@ -36,15 +37,8 @@ impl Zip {
             session.old session.new (move.go_to text.now) result }
     {
         self.find(session)?;
-        let entry = to(
-            session,
-            self.path(),
-            self.env(),
-            &self.spec(),
-            self.kept(),
-            text,
-        )?;
-        Ok(self.enter(session.alloc, entry)?)
+        let chosen = to(session, self.env(), &self.spec(), self.kept(), text)?;
+        Ok(self.enter_chosen(session.alloc, chosen)?)
     }
 
     /// To a first part, to the least element, inside an entry, or into a call's body.
@@ -57,7 +51,7 @@ impl Zip {
             session.old session.new move.go_into result }
     {
         self.find(session)?;
-        let entry = into(session, self.path(), self.env(), &self.spec(), self.kept())?;
-        Ok(self.enter(session.alloc, entry)?)
+        let inner = into(session, self.path(), self.env(), &self.spec(), self.kept())?;
+        Ok(self.enter_inner(session.alloc, inner)?)
     }
 }

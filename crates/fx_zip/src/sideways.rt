@@ -10,7 +10,7 @@ ghost use Rattle.fx_zip.specs.Calls.{Moves, Turns, Turned, Besides, sideways_eva
 ghost use Rattle.fx_zip.specs.Fresh.{IsFreshIn, Stands, StandsIn, IsNoElement, is_first, is_second_step};
 ghost use Rattle.fx_steps.specs.Frames.{last_step, last_set, path_of};
 ghost use Rattle.fx_steps.specs.Parts.{comp_name, part};
-ghost use Rattle.fx_steps.specs.Spots.{Chooses};
+ghost use Rattle.fx_steps.specs.Spots.{Chooses, as_entry, chosen_entry};
 ghost use Rattle.fx_zip.specs.Entered.{FirstLeads};
 ghost use Rattle.fx_zip.specs.Trees.{here};
 
@@ -22,8 +22,7 @@ use fx_spec::Refusal;
 use fx_steps::frames::path_around;
 use fx_steps::moving::chosen;
 use fx_steps::part::part_around;
-use fx_steps::{Entry, Spot, Step, comp_of, pair_of, spot_at};
-use fx_store::Path;
+use fx_steps::{Chosen, Entry, Spot, Step, comp_of, pair_of};
 use fx_view::{Reader, Stop};
 use std::alloc::Global;
 use std::sync::ledger::Ledger;
@@ -133,13 +132,6 @@ impl Zip {
         }
     }
 
-    /// The path of the place around.
-    fn outer_path(&self) -> &Path
-        ensures { result.now ≡ path_of (drop 1 self.now.frames) }
-    {
-        path_around(&self.top, self.frames.as_slice())
-    }
-
     /// From a second part to the first.
     fn to_first(&mut self, alloc: Global) -> Result<(), Halt>
         requires second { last_step self.old.address ≡ Some place.Second }
@@ -147,14 +139,9 @@ impl Zip {
             → Turned reads own self.old self.new
             (prev_at self.old.root self.old.address (here self.old)) result }
     {
-        let path = self.outer_path().copy(alloc)?;
-        Ok(self.replace(
-            alloc,
-            Entry {
-                step: Step::First,
-                spot: spot_at(path, 0),
-            },
-        )?)
+        self.leave();
+        let path = self.path().copy(alloc)?;
+        Ok(self.enter_at(Step::First, path, 0)?)
     }
 
     /// From an element to the next greater one.
@@ -163,8 +150,9 @@ impl Zip {
             → Turned reads own self.old self.new
             (beside self.old.root least_above self.old.address) result }
     {
-        let entry = self.greater(alloc)?;
-        Ok(self.replace(alloc, entry)?)
+        let chosen = self.greater(alloc)?;
+        self.leave();
+        Ok(self.enter_chosen(alloc, chosen)?)
     }
 
     /// From an element to the next smaller one.
@@ -173,14 +161,15 @@ impl Zip {
             → Turned reads own self.old self.new
             (beside self.old.root greatest_below self.old.address) result }
     {
-        let entry = self.smaller(alloc)?;
-        Ok(self.replace(alloc, entry)?)
+        let chosen = self.smaller(alloc)?;
+        self.leave();
+        Ok(self.enter_chosen(alloc, chosen)?)
     }
 
-    fn greater(&self, alloc: Global) -> Result<Entry, Halt>
+    fn greater(&self, alloc: Global) -> Result<Chosen, Halt>
         ensures { (reads : ReadList) (own : Known) → Stands reads own self.now → Besides reads own
-            self.now
-            (beside self.now.root least_above self.now.address) result }
+            self.now (beside self.now.root least_above self.now.address)
+            (as_entry (chosen_entry (path_of (drop 1 self.now.frames))) result) }
     {
         match self.element() {
             Some((text, set)) => self.other(alloc, set, set.above(text)),
@@ -188,10 +177,10 @@ impl Zip {
         }
     }
 
-    fn smaller(&self, alloc: Global) -> Result<Entry, Halt>
+    fn smaller(&self, alloc: Global) -> Result<Chosen, Halt>
         ensures { (reads : ReadList) (own : Known) → Stands reads own self.now → Besides reads own
-            self.now
-            (beside self.now.root greatest_below self.now.address) result }
+            self.now (beside self.now.root greatest_below self.now.address)
+            (as_entry (chosen_entry (path_of (drop 1 self.now.frames))) result) }
     {
         match self.element() {
             Some((text, set)) => self.other(alloc, set, set.below(text)),
@@ -199,15 +188,16 @@ impl Zip {
         }
     }
 
-    /// The entry at the chosen element of the set around the place.
-    fn other(&self, alloc: Global, set: &TextSet, choice: Option<&Text>) -> Result<Entry, Halt>
+    /// The chosen element of the set around the place.
+    fn other(&self, alloc: Global, set: &TextSet, choice: Option<&Text>) -> Result<Chosen, Halt>
         ensures { MatchOption (comp_name (part self.now.root (drop 1 self.now.address)))
             (Unit {0})
             (λ x. Chooses (path_of (drop 1 self.now.frames)) x set.now
-            (option_copied choice.entry) result) }
+            (option_copied choice.entry)
+            (as_entry (chosen_entry (path_of (drop 1 self.now.frames))) result)) }
     {
         match comp_of(&self.around()) {
-            Some((_, name, _)) => chosen(alloc, self.outer_path(), name, set, choice),
+            Some((_, name, _)) => chosen(alloc, name, set, choice),
             None => Err(Halt::Refused(Refusal::NoStep)),
         }
     }

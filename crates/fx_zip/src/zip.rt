@@ -10,21 +10,24 @@ ghost use Rattle.fx_steps.specs.Frames.{last_step, last_set, are_told, path_of};
 ghost use Rattle.fx_zip.specs.Fresh.{left, unframed, unkept, shorter, told_by};
 ghost use Rattle.fx_steps.specs.Parts as parts;
 ghost use Rattle.fx_zip.specs.Entered.{entered, kept_too};
+ghost use Rattle.fx_steps.specs.Spots.{bare_spot, body_spot, chosen_spot, inner_entry};
 ghost use Rattle.fx_steps.specs.Steps.{step_tree};
+ghost use Rattle.fx_spec.specs.Place as place;
 ghost use Rattle.fx_zip.specs.Trees.{here, is_settled, IsSettled};
 
 use fx_base::NoMemory;
-use fx_expr::{Env, TextSet};
+use fx_expr::{Env, TextSet, Value};
 use fx_spec::{Base, Part, Place, Refusal};
 use fx_steps::frames::{
     are_told, as_many, bind, held_set, is_element, last_path, last_step_of, pop_frame, pop_step,
     push_frame, push_step, unbind_at, unbind_last,
 };
 use fx_steps::part::{part, part_around};
-use fx_steps::{Entry, Frame, Spot, Step};
+use fx_steps::{Chosen, Entry, Frame, Inner, Spot, Step};
 use fx_store::Path;
 use std::alloc::Global;
 use std::marker::Model;
+use std::mem;
 use std::sync::Arc;
 
 /// An address in a described filestore, with a frame for each of its first steps: the path there, and the values of the
@@ -257,6 +260,89 @@ impl Zip {
     {
         self.add_step(entry.step)?;
         self.keep(alloc, entry.spot)
+    }
+
+    /// Adds a step to a path, which binds nothing and is known by so many reads.
+    pub(crate) fn enter_at(&mut self, step: Step, path: Path, reads: u64) -> Result<(), NoMemory>
+        ensures entered { IfOk result (λ _.
+            self.new ≡ entered self.old (step_tree step) (bare_spot path reads)) }
+        ensures root { self.new.root ≡ self.old.root }
+    {
+        self.add_step(step)?;
+        self.set = None;
+        push_frame(
+            &mut self.frames,
+            Frame {
+                path,
+                set: None,
+                reads,
+                caller: None,
+            },
+        )
+    }
+
+    /// Adds a step to a chosen element.
+    pub(crate) fn enter_chosen(&mut self, alloc: Global, chosen: Chosen) -> Result<(), NoMemory>
+        ensures entered { IfOk result (λ _. self.new ≡ entered self.old
+            (place.Elem chosen.text) (chosen_spot (path_of self.old.frames) chosen)) }
+        ensures root { self.new.root ≡ self.old.root }
+    {
+        let Chosen { name, text, set } = chosen;
+        let path = self.path().copy(alloc)?;
+        self.add_step(Step::Elem(text.copy(alloc)?))?;
+        self.env.add(alloc, (name, Value::Str(text)))?;
+        self.set = None;
+        push_frame(
+            &mut self.frames,
+            Frame {
+                path,
+                set: Some(set),
+                reads: 0,
+                caller: None,
+            },
+        )
+    }
+
+    /// Adds a step into a body, where these names are bound.
+    fn enter_body(&mut self, alloc: Global, names: Env) -> Result<(), NoMemory>
+        ensures entered { IfOk result (λ _. self.new ≡ entered self.old
+            place.Body (body_spot (path_of self.old.frames) names)) }
+        ensures root { self.new.root ≡ self.old.root }
+    {
+        let path = self.path().copy(alloc)?;
+        self.add_step(Step::Body)?;
+        let caller = mem::replace(&mut self.env, names);
+        self.set = None;
+        push_frame(
+            &mut self.frames,
+            Frame {
+                path,
+                set: None,
+                reads: 0,
+                caller: Some(caller),
+            },
+        )
+    }
+
+    /// Adds a step to what stands inside the place.
+    pub(crate) fn enter_inner(&mut self, alloc: Global, inner: Inner) -> Result<(), NoMemory>
+        ensures entered { IfOk result (λ _. self.new ≡ entered self.old
+            (step_tree (inner_entry (path_of self.old.frames) inner).step)
+            (inner_entry (path_of self.old.frames) inner).spot) }
+        ensures root { self.new.root ≡ self.old.root }
+    {
+        match inner {
+            Inner::First => {
+                let path = self.path().copy(alloc)?;
+                self.enter_at(Step::First, path, 0)
+            }
+            Inner::Element(chosen) => self.enter_chosen(alloc, chosen),
+            Inner::Entry(reads) => {
+                let path = self.path().copy(alloc)?;
+                self.enter_at(Step::Inside, path, reads)
+            }
+            Inner::Body(names) => self.enter_body(alloc, names),
+        }
     }
 
     fn add_step(&mut self, step: Step) -> Result<(), NoMemory>

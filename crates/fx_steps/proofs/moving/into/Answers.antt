@@ -1,41 +1,42 @@
-use Rattle.fx_steps.proofs.Prelude.{refl, subst, option_copied, SpecTree, part_of, HasScope}
+use Rattle.fx_steps.proofs.Prelude.{Ok, as_entry, inner_entry, refl, subst, option_copied, SpecTree, part_of, HasScope}
 use Rattle.fx_steps.proofs.Arguments.{call_shapes, last_shapes}
-use Rattle.fx_steps.proofs.Entering.{enters_form, none_from, kept_set}
+use Rattle.fx_steps.proofs.Entering.{enters_form, first_enters, none_from, kept_set}
+use Rattle.fx_steps.specs.declared.frame.Inner.TheVariants as inner
 use Rattle.fx_steps.proofs.Sessions.{enters_of}
 use Rattle.fx_steps.proofs.moving.into.Goals as goal
 
 pub returns-in-Pair : goal.returns-in-Pair
 returns-in-Pair g c = record {
   enters =
-      enters_form g.R.Reader.meaning c.args.path.now c.args.env.now (part_of c.args.spec.now) (SpecTree.pair c.in-Pair.field-0.now (part_of c.in-Pair.field-1) (part_of c.in-Pair.field-2)) c.args.session.now c.args.session.now c.first.result c.in-Pair.ensures.form
-      (enters_of refl (c.first.ensures.enters c.args.env.now c.in-Pair.field-0.now (part_of c.in-Pair.field-1) (part_of c.in-Pair.field-2) c.args.session.now.steps));
+      enters_form g.R.Reader.meaning c.args.path.now c.args.env.now (part_of c.args.spec.now) (SpecTree.pair c.in-Pair.field-0.now (part_of c.in-Pair.field-1) (part_of c.in-Pair.field-2)) c.args.session.now c.args.session.now (Ok (inner_entry c.args.path.now inner.First)) c.in-Pair.ensures.form
+      (enters_of refl (first_enters c.args.path.now c.args.env.now c.in-Pair.field-0.now (part_of c.in-Pair.field-1) (part_of c.in-Pair.field-2) c.args.session.now.steps));
 }
 
 pub returns-in-Comp : goal.returns-in-Comp
 returns-in-Comp g c = record {
   enters =
-      enters_form g.R.Reader.meaning c.args.path.now c.args.env.now (part_of c.args.spec.now) (SpecTree.comp (part_of c.in-Comp.field-0) c.in-Comp.name.now c.in-Comp.set.now) c.args.session.now c.least.new.session c.least.result c.in-Comp.ensures.form
-      (enters_of c.least.ensures.still (c.least.ensures.enters (part_of c.in-Comp.field-0)));
+      enters_form g.R.Reader.meaning c.args.path.now c.args.env.now (part_of c.args.spec.now) (SpecTree.comp (part_of c.in-Comp.field-0) c.in-Comp.name.now c.in-Comp.set.now) c.args.session.now c.least.new.session (as_entry (inner_entry c.args.path.now) c.least.result) c.in-Comp.ensures.form
+      (enters_of c.least.ensures.still (c.least.ensures.enters c.args.path.now (part_of c.in-Comp.field-0)));
 }
 
 pub returns-in-Opt : goal.returns-in-Opt
 returns-in-Opt g c = record {
   enters =
-      enters_form g.R.Reader.meaning c.args.path.now c.args.env.now (part_of c.args.spec.now) (SpecTree.opt (part_of c.in-Opt.field-0)) c.args.session.now c.inside.new.session c.inside.result c.in-Opt.ensures.form
+      enters_form g.R.Reader.meaning c.args.path.now c.args.env.now (part_of c.args.spec.now) (SpecTree.opt (part_of c.in-Opt.field-0)) c.args.session.now c.inside.new.session (as_entry (inner_entry c.args.path.now) c.inside.result) c.in-Opt.ensures.form
       (c.inside.ensures.enters c.args.env.now (part_of c.in-Opt.field-0));
 }
 
 pub returns-in-Call : goal.returns-in-Call
 returns-in-Call g c = record {
   enters =
-      enters_form g.R.Reader.meaning c.args.path.now c.args.env.now (part_of c.args.spec.now) (SpecTree.call c.in-Call.args.now c.in-Call.params.now (part_of c.in-Call.field-2)) c.args.session.now c.body.new.session c.body.result c.in-Call.ensures.form
-      (enters_of c.body.ensures.still (c.body.ensures.enters (part_of c.in-Call.field-2)));
+      enters_form g.R.Reader.meaning c.args.path.now c.args.env.now (part_of c.args.spec.now) (SpecTree.call c.in-Call.args.now c.in-Call.params.now (part_of c.in-Call.field-2)) c.args.session.now c.body.new.session (as_entry (inner_entry c.args.path.now) c.body.result) c.in-Call.ensures.form
+      (enters_of c.body.ensures.still (c.body.ensures.enters c.args.path.now (part_of c.in-Call.field-2)));
 }
 
 pub returns-in-Last : goal.returns-in-Last
 returns-in-Last g c = record {
   enters =
-      enters_form g.R.Reader.meaning c.args.path.now c.args.env.now (part_of c.args.spec.now) (SpecTree.last c.in-Last.args.now c.in-Last.ensures.form.0) c.args.session.now c.too_unfolded.new.session c.too_unfolded.result c.in-Last.ensures.form.1
+      enters_form g.R.Reader.meaning c.args.path.now c.args.env.now (part_of c.args.spec.now) (SpecTree.last c.in-Last.args.now c.in-Last.ensures.form.0) c.args.session.now c.too_unfolded.new.session (as_entry (inner_entry c.args.path.now) c.too_unfolded.result) c.in-Last.ensures.form.1
       (enters_of c.too_unfolded.ensures.still (c.too_unfolded.ensures.enters c.args.path.now c.in-Last.ensures.form.0));
 }
 

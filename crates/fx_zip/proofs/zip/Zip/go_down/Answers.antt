@@ -1,4 +1,5 @@
 use Rattle.fx_zip.proofs.Prelude.{Ok, Err, refl, go_down, from_place, part_of, own_at, place_evals}
+use Rattle.fx_steps.specs.Spots.{down_entry}
 use Rattle.fx_zip.proofs.Places.{moves_unfound, here_scope, enters_here, moved_in, moved_memory, moved_not}
 use Rattle.fx_steps.proofs.Sessions.{enters_of}
 use Rattle.fx_zip.proofs.zip.Zip.go_down.Goals as goal
@@ -12,17 +13,17 @@ returns-in_err-find g c = record {
 pub down-requires : goal.down-requires
 down-requires g c = record { described = here_scope (g.R.Reader.meaning.reads c.find.new.session.reader.now) (own_at c.find.new.session.own) c.find.new.self c.path.result.now c.env.result.now (part_of c.spec.result) c.path.ensures c.env.ensures c.spec.ensures.part c.spec.ensures.described c.in_ok-find.ensures.stands }
 
-pub returns-in_err-entry : goal.returns-in_err-entry
-returns-in_err-entry g c = record {
-  moves = moved_not g.R.Reader.meaning c.args.self.now c.find.new.self c.args.session.now c.find.new.session c.down.new.session c.in_ok-find.ensures go_down c.in_err-entry.field-0.0 c.from_residual-in_err-entry.result (enters_here (g.R.Reader.meaning.reads c.find.new.session.reader.now) (own_at c.find.new.session.own) c.find.new.self c.path.result.now c.env.result.now (part_of c.spec.result) c.path.ensures c.env.ensures c.spec.ensures.part go_down (Err c.in_err-entry.field-0.0) g.R.Reader.meaning c.find.new.session c.down.new.session (enters_of c.in_err-entry.ensures.still c.in_err-entry.ensures.enters)) c.from_residual-in_err-entry.ensures.1;
+pub returns-in_err-path : goal.returns-in_err-path
+returns-in_err-path g c = record {
+  moves = moved_not g.R.Reader.meaning c.args.self.now c.find.new.self c.args.session.now c.find.new.session c.down.new.session c.in_ok-find.ensures go_down c.in_err-path.field-0.0 c.from_residual-in_err-path.result (enters_here (g.R.Reader.meaning.reads c.find.new.session.reader.now) (own_at c.find.new.session.own) c.find.new.self c.path.result.now c.env.result.now (part_of c.spec.result) c.path.ensures c.env.ensures c.spec.ensures.part go_down (Err c.in_err-path.field-0.0) g.R.Reader.meaning c.find.new.session c.down.new.session (enters_of c.in_err-path.ensures.still c.in_err-path.ensures.enters)) c.from_residual-in_err-path.ensures.1;
 }
 
-pub returns-in_err-enter : goal.returns-in_err-enter
-returns-in_err-enter g c = record {
-  moves = moved_memory g.R.Reader.meaning c.args.self.now c.find.new.self c.args.session.now c.find.new.session c.down.new.session c.in_ok-find.ensures go_down c.in_ok-entry.entry c.enter.new.self c.from_residual-in_err-enter.result (enters_here (g.R.Reader.meaning.reads c.find.new.session.reader.now) (own_at c.find.new.session.own) c.find.new.self c.path.result.now c.env.result.now (part_of c.spec.result) c.path.ensures c.env.ensures c.spec.ensures.part go_down (Ok c.in_ok-entry.entry) g.R.Reader.meaning c.find.new.session c.down.new.session (enters_of c.in_ok-entry.ensures.still c.in_ok-entry.ensures.enters)) c.in_err-enter.ensures.root c.from_residual-in_err-enter.ensures.1;
+pub returns-in_err-enter_at : goal.returns-in_err-enter_at
+returns-in_err-enter_at g c = record {
+  moves = moved_memory g.R.Reader.meaning c.args.self.now c.find.new.self c.args.session.now c.find.new.session c.down.new.session c.in_ok-find.ensures go_down (down_entry c.in_ok-path.path) c.enter_at.new.self c.from_residual-in_err-enter_at.result (enters_here (g.R.Reader.meaning.reads c.find.new.session.reader.now) (own_at c.find.new.session.own) c.find.new.self c.path.result.now c.env.result.now (part_of c.spec.result) c.path.ensures c.env.ensures c.spec.ensures.part go_down (Ok (down_entry c.in_ok-path.path)) g.R.Reader.meaning c.find.new.session c.down.new.session (enters_of c.in_ok-path.ensures.still c.in_ok-path.ensures.enters)) c.in_err-enter_at.ensures.root c.from_residual-in_err-enter_at.ensures.1;
 }
 
 pub returns : goal.returns
 returns g c = record {
-  moves = moved_in g.R.Reader.meaning c.args.self.now c.find.new.self c.args.session.now c.find.new.session c.down.new.session c.in_ok-find.ensures go_down c.in_ok-entry.entry c.enter.new.self (enters_here (g.R.Reader.meaning.reads c.find.new.session.reader.now) (own_at c.find.new.session.own) c.find.new.self c.path.result.now c.env.result.now (part_of c.spec.result) c.path.ensures c.env.ensures c.spec.ensures.part go_down (Ok c.in_ok-entry.entry) g.R.Reader.meaning c.find.new.session c.down.new.session (enters_of c.in_ok-entry.ensures.still c.in_ok-entry.ensures.enters)) c.in_ok-enter.ensures.entered;
+  moves = moved_in g.R.Reader.meaning c.args.self.now c.find.new.self c.args.session.now c.find.new.session c.down.new.session c.in_ok-find.ensures go_down (down_entry c.in_ok-path.path) c.enter_at.new.self (enters_here (g.R.Reader.meaning.reads c.find.new.session.reader.now) (own_at c.find.new.session.own) c.find.new.self c.path.result.now c.env.result.now (part_of c.spec.result) c.path.ensures c.env.ensures c.spec.ensures.part go_down (Ok (down_entry c.in_ok-path.path)) g.R.Reader.meaning c.find.new.session c.down.new.session (enters_of c.in_ok-path.ensures.still c.in_ok-path.ensures.enters)) c.in_ok-enter_at.ensures.entered;
 }
