@@ -23,8 +23,9 @@ from trace import traced, write_scripts
 SIZES = [1_000, 10_000, 100_000]
 EACH_SIZES = [1_000, 4_000, 10_000, 16_000]
 REPEATS = 3
-# So many loops of a run take longer than load and save.
-LOOPS = 10
+# So many loops of a run take longer than load and save. A growth is of two lines, so each has more
+# turns.
+LOOPS, LOOP_REPEATS = 10, 9
 # What a line of so many has to reach.
 TRACED: dict[int, Goals] = {10_000: (of_peer(1.5),), 100_000: (of_peer(1.5), seconds(2))}
 CROWDED: dict[int, Goals] = {10_000: (of_peer(1.5),), 100_000: (seconds(2),)}
@@ -124,4 +125,4 @@ def lines(sizes: list[int]) -> Iterator[measure.Line]:
     for kind, script, goals in EACH:
         for count in sizes or EACH_SIZES:
             more = (LOOPED[count],) if goals and count in LOOPED else ()
-            yield looking(kind, [], script, count, (*goals, *more), LOOPS)
+            yield looking(kind, [], script, count, (*goals, *more), LOOPS, LOOP_REPEATS)

@@ -37,7 +37,13 @@ def listed_files(path: str, count: int) -> None:
 
 
 def looking(
-    kind: str, schedule: list[str], script: str, count: int, goals: Goals = (), times: int = 1
+    kind: str,
+    schedule: list[str],
+    script: str,
+    count: int,
+    goals: Goals = (),
+    times: int = 1,
+    repeats: int = REPEATS,
 ) -> measure.Line:
     """A line of a transaction over `count` listed files.
 
@@ -58,7 +64,7 @@ def looking(
             shell,
         ]
         ran, seconds, more, _ = measure.beyond(
-            scratch, words_of, "txn { }\n", script * times, REPEATS
+            scratch, words_of, "txn { }\n", script * times, repeats
         )
     if ran.out.count(b" done\n") != times:
         sys.exit(f"a transaction was refused: {ran.out[-200:]!r}")

@@ -24,7 +24,7 @@ LARGE_FILES = 60
 DESCRIPTION = '("f00000" :: file)\n'
 SCRIPT = "txn { down fetch x : str }\n"
 REPORT = b"forest report 1\nentries 1\nentry 0 shell 0 txn 0 done\nretries 0\nend\n"
-REPEATS = 5
+REPEATS = 9
 REPEATS_ON_DISK = 3
 # Of 20,000 files and more.
 LARGE = 20_000

@@ -21,7 +21,7 @@ from looks import LISTED, THROUGH, listed_files
 SCRIPTS = [1, 2, 4]
 FILES = 1_000
 TRANSACTIONS = 200
-REPEATS = 5
+REPEATS = 9
 # What so many scripts have to reach, beside as many programs at once.
 OF_PROGRAMS = {2: 1.2, 4: 1.4}
 
