@@ -2,8 +2,8 @@
 
 `trace` of many transactions over 16 projects, each with a counter and a log: on projects that are
 drawn, and with all counts on two of them, where conflicts are frequent. And one transaction that
-goes through many files by `each`: reading, by `next` or by `to`, or storing. It is done ten times
-in a run.
+goes through many files by `each`: reading, by `next` or by `to`, or storing. It is done 30 times in
+a run.
 """
 
 from __future__ import annotations
@@ -25,7 +25,7 @@ EACH_SIZES = [1_000, 4_000, 10_000, 16_000]
 REPEATS = 3
 # So many loops of a run take longer than load and save. A growth is of two lines, so each has more
 # turns.
-LOOPS, LOOP_REPEATS = 10, 9
+LOOPS, LOOP_REPEATS = 30, 7
 # What a line of so many has to reach.
 TRACED: dict[int, Goals] = {10_000: (of_peer(1.5),), 100_000: (of_peer(1.5), seconds(2))}
 CROWDED: dict[int, Goals] = {10_000: (of_peer(1.5),), 100_000: (seconds(2),)}
@@ -45,9 +45,9 @@ CHANGED = (
     ' each n in (all) { down fetch x : str store((x ++ "!")) up try end next } }\n'
 )
 EACH: list[tuple[str, str, Goals]] = [
-    ("run: files read by ten `each`, by `next`", THROUGH, ()),
-    ("run: files read by ten `each`, by `to`", TO, (LOOP,)),
-    ("run: files changed by ten `each`", CHANGED, (LOOP,)),
+    (f"run: files read by {LOOPS} `each`, by `next`", THROUGH, ()),
+    (f"run: files read by {LOOPS} `each`, by `to`", TO, (LOOP,)),
+    (f"run: files changed by {LOOPS} `each`", CHANGED, (LOOP,)),
 ]
 
 
