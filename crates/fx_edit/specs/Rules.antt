@@ -101,7 +101,7 @@ pub record IsNextChange (a b : List (List ℕ)) (n : List ℕ) (new : Bool) (c d
   pub some : new ≡ true → 0 < length b
   pub smaller : length c + length d < length a + length b
 
--- what is left of both sets of names ascends, and the new names are no more than these
+-- both lists ascend, and the second has at most as many names as `new`
 pub record AreLeft (new a b : List (List ℕ)) : Type 0 where
   pub olds : IsAscending a
   pub news : IsAscending b

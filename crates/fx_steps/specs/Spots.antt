@@ -123,7 +123,7 @@ chosen_entry p chosen = record { step = steps.Elem chosen.text; spot = chosen_sp
 abbrev pub inner_entry : List (List ℕ) → Inner → Entry
 inner_entry p inner.First = record { step = steps.First; spot = bare_spot p 0 }
 inner_entry p (inner.Element chosen) = chosen_entry p chosen
-inner_entry p (inner.Entry reads) = record { step = steps.Inside; spot = bare_spot p reads }
+inner_entry p (inner.Inside reads) = record { step = steps.Inside; spot = bare_spot p reads }
 inner_entry p (inner.Body names) = record { step = steps.Body; spot = body_spot p names }
 
 -- what a move finds, as its entry

@@ -58,7 +58,7 @@ pub struct Chosen {
 pub enum Inner {
     First,
     Element(Chosen),
-    Entry(u64),
+    Inside(u64),
     Body(Env),
 }
 

@@ -150,7 +150,7 @@ fn inside<R: Reader, L: Ledger>(session: &mut Session<'_, R, L>, path: &Path) ->
         env (SpecTree.opt part) session.old session.new (as_entry (inner_entry path.now) result) }
 {
     if exists(session, path)? {
-        Ok(Inner::Entry(session.reader.reads().len()))
+        Ok(Inner::Inside(session.reader.reads().len()))
     } else {
         Err(Halt::Refused(Refusal::Lacks))
     }

@@ -14,3 +14,4 @@ pub mod Overlays
 pub mod SpellingLaws
 pub mod Crosses
 pub mod PathLists
+pub mod Passing

@@ -23,5 +23,5 @@ pub use link::LinkText;
 pub use name::{Name, PathFault};
 pub use names::{NameList, Names};
 pub use node::{Landing, Node};
-pub use path::Path;
+pub use path::{Path, PathIter};
 pub use paths::Paths;

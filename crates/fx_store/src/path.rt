@@ -1,12 +1,13 @@
 //! Paths, as lists of names from the root on.
-ghost use Rattle.std.specs.Prelude.{◌≡◌, ◌-◌, ◌<◌, ℕ, List, [], ◌∷◌, ◌++◌, take, suc, length, IfOk, slice_get, option_copied, bytes_eq, refl};
+ghost use Rattle.std.specs.Prelude.{◌≡◌, ◌==◌, ◌-◌, ◌<◌, ℕ, List, [], ◌∷◌, ◌++◌, take, suc, length, IfOk, IsTrue, IsFalse, ◌≢◌, ◌↔◌, slice_get, option_copied, bytes_eq, refl};
 ghost use Rattle.std.specs.Cmp.Lexicographic.{pointwise};
-ghost use Rattle.std.specs.Slice.Iter.{iter_rest};
+ghost use Rattle.std.specs.Iterator.{YieldsFirstRef, item_count};
 ghost use Rattle.std.specs.Cmp.{partial_equiv_from_equiv, partial_order_from_total, eq_by_cmp_equiv};
 ghost use Rattle.std.specs.Ordering.{as_partial_cmp, eq_by_cmp};
 ghost use Rattle.std.specs.List.{flat_map};
 ghost use Rattle.std.proofs.Common.{ap};
 ghost use Rattle.fx_store.specs.Names.{IsPath, path_cmp};
+ghost use Rattle.std.specs.Arc.{arc_slice_items};
 ghost use Rattle.fx_store.specs.HeldNames.{held_names};
 ghost use Rattle.fx_store.specs.Orders.{path_total, path_eq_same};
 ghost use Rattle.fx_store.specs.Resolve.{◌/ₚ◌, parent};
@@ -21,10 +22,12 @@ use std::cmp::Ordering;
 use std::hash::{Hash, Hasher};
 use std::marker::Model;
 use std::slice;
-use std::sync::ArcSlice;
+use std::sync::{Arc, ArcSlice};
 
 /// A path of at most 64 names, the first below the root. The root has none. Paths are ordered name by name, so a
 /// directory comes just before all that is below it.
+///
+/// The paths of a directory's entries may share its names, and have one of their own each.
 #[derive(Debug)]
 pub struct Path {
     held: Held,
@@ -37,11 +40,20 @@ impl Drop for Path {
     }
 }
 
-/// No names, or the first of some that other paths share, and how many they are.
+/// No names, or the first of some that other paths share, and how many they are; or those of an entry.
 #[derive(Debug, Drop)]
 enum Held {
     Root,
     Names(ArcSlice<Name>, usize),
+    Entry(Arc<Entry>),
+}
+
+/// The names of an entry: the first of some that are its directory's, how many they are, and its own.
+#[derive(Debug, Drop)]
+struct Entry {
+    names: ArcSlice<Name>,
+    count: usize,
+    name: Name,
 }
 
 impl Model for Path {
@@ -82,7 +94,7 @@ impl Path {
     pub fn join(&self, alloc: Global, name: &Name) -> Result<Path, PathFault>
         ensures { Answers result (joined self.now name.now) }
     {
-        if self.held.as_slice().len() >= MAX_PATH_NAMES {
+        if self.len() as usize >= MAX_PATH_NAMES {
             return Err(PathFault::TooDeep);
         }
         Ok(self.child(alloc, name)?)
@@ -92,32 +104,67 @@ impl Path {
     pub fn join_along(&self, alloc: Global, name: &Name, way: &Path) -> Result<Path, PathFault>
         ensures { Answers result (joined self.now name.now) }
     {
-        let names = self.held.as_slice();
-        if goes_on_by(way.held.as_slice(), names, name) {
+        if goes_on_by(way, self, name) {
             return Ok(Path {
-                held: first(&way.held, names.len() + 1)?,
+                held: first(&way.held, self.len() as usize + 1)?,
             });
         }
         self.join(alloc, name)
     }
 
-    /// The path of an entry; the caller keeps the limit of 64 names.
+    /// The path of an entry; the caller keeps the limit of 64 names. It shares the names of this path, if this is gathered.
     pub fn child(&self, alloc: Global, name: &Name) -> Result<Path, NoMemory>
         requires { length self.now < MAX_PATH_NAMES }
         ensures { IfOk result (λ p. p ≡ self.now /ₚ name.now) }
     {
-        let mut names = with_room(alloc, self.held.as_slice(), 1)?;
-        names.push(name.copy(alloc)?)?;
+        let name = name.copy(alloc)?;
+        if let Held::Names(names, count) = &self.held {
+            let entry = Entry {
+                names: names.clone()?,
+                count: *count,
+                name,
+            };
+            return Ok(Path {
+                held: Held::Entry(Arc::new(alloc, entry)?),
+            });
+        }
+        let mut names = self.with_room(alloc, 1)?;
+        names.push(name)?;
         Ok(Path {
-            held: shared(names)?,
+            held: from_names(names)?,
         })
+    }
+
+    /// An equal path, whose entries' paths share its names. Whoever makes many of them takes it first.
+    pub fn gathered(&self, alloc: Global) -> Result<Path, NoMemory>
+        ensures { IfOk result (λ p. p ≡ self.now) }
+    {
+        if let Held::Entry(_) = &self.held {
+            let names = self.with_room(alloc, 0)?;
+            return Ok(Path {
+                held: from_names(names)?,
+            });
+        }
+        self.copy(alloc)
+    }
+
+    /// A copy of the names, with room for so many more.
+    fn with_room(&self, alloc: Global, more: usize) -> Result<Vec<Name>, NoMemory>
+        ensures { IfOk result (λ copy. copy.items ≡ self.now) }
+    {
+        let (front, last) = self.as_slices();
+        let room = front.len().saturating_add(last.len());
+        let mut copy = Vec::with_capacity(alloc, room.saturating_add(more))?;
+        copy.extend_with_clones(front)?;
+        copy.extend_with_clones(last)?;
+        Ok(copy)
     }
 
     /// The directory above; the root is above itself.
     pub fn parent(&self, _alloc: Global) -> Result<Path, NoMemory>
         ensures { IfOk result (λ p. p ≡ parent self.now) }
     {
-        let kept = self.held.as_slice().len().saturating_sub(1);
+        let kept = (self.len() as usize).saturating_sub(1);
         Ok(Path {
             held: first(&self.held, kept)?,
         })
@@ -136,13 +183,13 @@ impl Path {
             return Err(PathFault::BadName);
         }
         let more = count_parts(text);
-        if more > MAX_PATH_NAMES - self.held.as_slice().len() {
+        if more > MAX_PATH_NAMES - self.len() as usize {
             return Err(PathFault::TooDeep);
         }
-        let mut names = with_room(alloc, self.held.as_slice(), more)?;
+        let mut names = self.with_room(alloc, more)?;
         add_names(alloc, &mut names, text)?;
         Ok(Path {
-            held: shared(names)?,
+            held: from_names(names)?,
         })
     }
 
@@ -158,7 +205,8 @@ impl Path {
         ensures len { result ≡ length self.now }
         ensures path { IsPath self.now }
     {
-        self.held.as_slice().len() as u32
+        let (front, last) = self.as_slices();
+        (front.len() + last.len()) as u32
     }
 
     /// The name at an index, counted from 0 below the root.
@@ -166,7 +214,11 @@ impl Path {
         ensures name { option_copied result ≡ slice_get self.now i }
         ensures path { IsPath self.now }
     {
-        self.held.as_slice().get(i as usize)
+        let (front, last) = self.as_slices();
+        match front.get(i as usize) {
+            Some(name) => Some(name),
+            None => last.get(i as usize - front.len()),
+        }
     }
 
     /// The last name; the root has none.
@@ -174,16 +226,35 @@ impl Path {
         ensures name { option_copied result ≡ slice_get self.now (length self.now - 1) }
         ensures path { IsPath self.now }
     {
-        self.held.as_slice().last()
+        let (front, last) = self.as_slices();
+        match last.last() {
+            Some(name) => Some(name),
+            None => front.last(),
+        }
     }
 
     /// The names, from the first below the root.
-    pub fn iter(&self) -> slice::Iter<'_, Name>
-        ensures rest { iter_rest result ≡ self.now }
-        ensures len { length (iter_rest result) ≡ length self.now }
+    pub fn iter(&self) -> PathIter<'_>
+        ensures rest { result ≡ self.now }
         ensures path { IsPath self.now }
     {
-        self.held.as_slice().iter()
+        let (front, last) = self.as_slices();
+        PathIter { front, last }
+    }
+
+    /// The names in two parts, the second behind the first.
+    fn as_slices(&self) -> (&[Name], &[Name])
+        ensures names { result.0.now ++ result.1.now ≡ self.now }
+        ensures path { IsPath self.now }
+    {
+        match &self.held {
+            Held::Root => (&[], &[]),
+            Held::Names(names, count) => (front(names, *count), &[]),
+            Held::Entry(entry) => (
+                front(&entry.names, entry.count),
+                slice::from_ref(&entry.name),
+            ),
+        }
     }
 
     /// An equal path, which shares its names with this one.
@@ -197,21 +268,15 @@ impl Path {
     }
 }
 
-impl Held {
-    fn as_slice(&self) -> &[Name]
-        ensures { result.now ≡ held_names self.now }
-    {
-        match self {
-            Held::Root => &[],
-            Held::Names(names, count) => {
-                let names = names.as_slice();
-                &names[..names.len().min(*count)]
-            }
-        }
-    }
+/// So many of the names, or all where there are no more.
+fn front(names: &ArcSlice<Name>, count: usize) -> &[Name]
+    ensures { result.now ≡ take count (arc_slice_items names.now) }
+{
+    let names = names.as_slice();
+    &names[..names.len().min(count)]
 }
 
-fn shared(names: Vec<Name>) -> Result<Held, NoMemory>
+fn from_names(names: Vec<Name>) -> Result<Held, NoMemory>
     ensures { IfOk result (λ held. held_names held ≡ names.items) }
 {
     if names.is_empty() {
@@ -227,6 +292,7 @@ fn copied(held: &Held) -> Result<Held, AllocError>
     match held {
         Held::Root => Ok(Held::Root),
         Held::Names(names, count) => Ok(Held::Names(names.clone()?, *count)),
+        Held::Entry(entry) => Ok(Held::Entry(entry.clone()?)),
     }
 }
 
@@ -237,37 +303,27 @@ fn first(held: &Held, count: usize) -> Result<Held, AllocError>
     match held {
         Held::Root => Ok(Held::Root),
         Held::Names(names, all) => Ok(Held::Names(names.clone()?, count.min(*all))),
-    }
-}
-
-/// Whether a way goes on by the name after these names.
-fn goes_on_by(way: &[Name], names: &[Name], name: &Name) -> bool
-    ensures { result ≡ pointwise bytes_eq (take (suc (length names.now)) way.now) (names.now ++ name.now ∷ []) }
-{
-    let mut way = way;
-    let mut names = names;
-    'names: while let Some((x, c)) = way.split_first() {
-        match names.split_first() {
-            None => return x == name,
-            Some((y, d)) => {
-                if x != y {
-                    return false;
-                }
-                way = c;
-                names = d;
+        Held::Entry(entry) => {
+            if count > front(&entry.names, entry.count).len() {
+                return copied(held);
             }
+            Ok(Held::Names(entry.names.clone()?, count.min(entry.count)))
         }
     }
-    false
 }
 
-/// A copy of the names, with room for so many more.
-fn with_room(alloc: Global, names: &[Name], more: usize) -> Result<Vec<Name>, NoMemory>
-    ensures { IfOk result (λ copy. copy.items ≡ names.now) }
+/// Whether a way goes on by a name after the names of a path.
+fn goes_on_by(way: &Path, path: &Path, name: &Name) -> bool
+    ensures { IsTrue result ↔ take (suc (length path.now)) way.now ≡ path.now ++ name.now ∷ [] }
 {
-    let mut copy = Vec::with_capacity(alloc, names.len().saturating_add(more))?;
-    copy.extend_with_clones(names)?;
-    Ok(copy)
+    let mut rest = way.iter();
+    if !rest.passes(&path.iter()) {
+        return false;
+    }
+    match rest.next() {
+        Some(next) => next == name,
+        None => false,
+    }
 }
 
 /// Whether the names are the same, one by one.
@@ -294,6 +350,96 @@ fn are_same(a: &[Name], b: &[Name]) -> bool
     b.is_empty()
 }
 
+/// The names of a path that are left, seen as a list.
+#[derive(Drop)]
+pub struct PathIter<'a> {
+    front: &'a [Name],
+    last: &'a [Name],
+}
+
+impl<'a> Model for PathIter<'a> {
+    ghost use Rattle.std.specs.Prelude.{◌++◌, List, ℕ};
+
+    ghost Value = { List (List ℕ) };
+
+    ghost view = { λ it. it.front.now ++ it.last.now };
+}
+
+impl<'a> PathIter<'a> {
+    /// Whether none is left.
+    pub fn is_empty(&self) -> bool
+        ensures { result ≡ (length self.now == 0) }
+    {
+        self.front.is_empty() && self.last.is_empty()
+    }
+
+    /// An equal one.
+    pub fn copy(&self) -> PathIter<'a>
+        ensures { result ≡ self.now }
+    {
+        PathIter {
+            front: self.front,
+            last: self.last,
+        }
+    }
+
+    /// Passes some names, where those that are left begin with them. Else some may have been passed.
+    fn passes(&mut self, names: &PathIter<'_>) -> bool
+        ensures yes { IsTrue result → self.old ≡ names.now ++ self.new }
+        ensures no { IsFalse result → (rest : List (List ℕ)) → self.old ≢ names.now ++ rest }
+    {
+        let mut rest = self.copy();
+        for name in names.copy() {
+            let Some(own) = rest.next() else {
+                return false;
+            };
+            if own != name {
+                return false;
+            }
+        }
+        *self = rest;
+        true
+    }
+
+    fn compare(&self, other: &PathIter<'_>) -> Ordering
+        ensures { result ≡ path_cmp self.now other.now }
+    {
+        let mut rest = other.copy();
+        for name in self.copy() {
+            let Some(other) = rest.next() else {
+                return Ordering::Greater;
+            };
+            match name.cmp(other) {
+                Ordering::Equal => {}
+                unequal => return unequal,
+            }
+        }
+        if rest.is_empty() {
+            Ordering::Equal
+        } else {
+            Ordering::Less
+        }
+    }
+}
+
+impl<'a> Iterator for PathIter<'a> {
+    type Item = &'a Name;
+
+    ghost next_gives = { YieldsFirstRef (λ rest. rest) };
+
+    ghost remaining = { item_count (λ rest. rest) };
+
+    fn next(&mut self) -> Option<&'a Name> {
+        if let Some((name, rest)) = self.front.split_first() {
+            self.front = rest;
+            return Some(name);
+        }
+        let (name, rest) = self.last.split_first()?;
+        self.last = rest;
+        Some(name)
+    }
+}
+
 impl Clone for Path {
     ghost is_clone = { λ x y. y ≡ x };
 
@@ -310,7 +456,16 @@ impl PartialEq for Path {
     ghost laws = { partial_equiv_from_equiv (eq_by_cmp_equiv path_total) };
 
     fn eq(&self, other: &Path) -> bool {
-        are_same(self.held.as_slice(), other.held.as_slice())
+        let (names, own) = self.as_slices();
+        let (others, another) = other.as_slices();
+        if names.len() + own.len() != others.len() + another.len() {
+            return false;
+        }
+        if names.len() == others.len() {
+            return are_same(names, others) && are_same(own, another);
+        }
+        let mut rest = self.iter();
+        rest.passes(&other.iter()) && rest.is_empty()
     }
 }
 
@@ -338,7 +493,7 @@ impl Ord for Path {
     ghost matches_eq = { λ _ _. refl };
 
     fn cmp(&self, other: &Path) -> Ordering {
-        self.held.as_slice().cmp(other.held.as_slice())
+        self.iter().compare(&other.iter())
     }
 }
 
@@ -348,6 +503,8 @@ impl Hash for Path {
     ghost respects_eq = { λ x y e. ap (flat_map (λ n. n ∷ [])) (path_eq_same x y e) };
 
     fn hash<H: Hasher>(&self, state: &mut H) {
-        Name::hash_slice(self.held.as_slice(), state);
+        let (front, last) = self.as_slices();
+        Name::hash_slice(front, state);
+        Name::hash_slice(last, state);
     }
 }

@@ -76,7 +76,7 @@ impl Parent {
         requires { 47 ∷ string_bytes front ≡ place_of path.now ++ 47 ∷ [] }
         ensures { IfOk result (λ parent. parent ≡ path.now) }
     {
-        let path = path.copy(alloc)?;
+        let path = path.gathered(alloc)?;
         Ok(Parent {
             spelled: Arc::new(alloc, Spelled { path, front })?,
         })

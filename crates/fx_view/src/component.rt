@@ -7,7 +7,7 @@ ghost use Rattle.fx_store.specs.Resolve as rule;
 ghost use Rattle.fx_view.specs.Ways.{meant, way};
 
 use fx_base::NoMemory;
-use fx_store::{LinkText, Name, NameList, Path, PathFault};
+use fx_store::{LinkText, Name, NameList, Path, PathFault, PathIter};
 use std::alloc::Global;
 use std::collections::VecDeque;
 use std::marker::Model;
@@ -24,7 +24,7 @@ pub(crate) enum Component {
 #[derive(Drop)]
 pub(crate) struct Way<'a> {
     parts: VecDeque<Component>,
-    names: &'a [Name],
+    names: PathIter<'a>,
 }
 
 impl<'a> Model for Way<'a> {
@@ -34,7 +34,7 @@ impl<'a> Model for Way<'a> {
 
     ghost Value = { List rule.Component };
 
-    ghost view = { λ w. way w.parts.items ++ map rule.Normal w.names.now };
+    ghost view = { λ w. way w.parts.items ++ map rule.Normal w.names };
 }
 
 impl<'a> Way<'a> {
@@ -44,7 +44,7 @@ impl<'a> Way<'a> {
     {
         Way {
             parts: VecDeque::new(alloc),
-            names: path.iter().as_slice(),
+            names: path.iter(),
         }
     }
 
@@ -63,12 +63,8 @@ impl<'a> Way<'a> {
         if let Some(component) = self.parts.pop_front() {
             return Ok(Some(component));
         }
-        match self.names.split_first() {
-            Some((name, rest)) => {
-                let name = name.copy(alloc)?;
-                self.names = rest;
-                Ok(Some(Component::Normal(name)))
-            }
+        match self.names.next() {
+            Some(name) => Ok(Some(Component::Normal(name.copy(alloc)?))),
             None => Ok(None),
         }
     }
@@ -92,18 +88,18 @@ impl<'a> Way<'a> {
         ensures { IfOk result (λ names. names ≡ names_only (rule.Normal first ∷ self.now)) }
     {
         match names_only(alloc, first, &self.parts)? {
-            Some(names) => Ok(Some(with_names(alloc, names, self.names)?)),
+            Some(names) => Ok(Some(with_names(alloc, names, &self.names)?)),
             None => Ok(None),
         }
     }
 }
 
 /// The names, and then these.
-fn with_names(alloc: Global, names: NameList, more: &[Name]) -> Result<NameList, NoMemory>
+fn with_names(alloc: Global, names: NameList, more: &PathIter<'_>) -> Result<NameList, NoMemory>
     ensures { IfOk result (λ all. all ≡ names ++ more.now) }
 {
     let mut all = names;
-    for name in more.iter() {
+    for name in more.copy() {
         all.add(alloc, name.copy(alloc)?)?;
     }
     Ok(all)

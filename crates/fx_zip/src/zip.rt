@@ -337,7 +337,7 @@ impl Zip {
                 self.enter_at(Step::First, path, 0)
             }
             Inner::Element(chosen) => self.enter_chosen(alloc, chosen),
-            Inner::Entry(reads) => {
+            Inner::Inside(reads) => {
                 let path = self.path().copy(alloc)?;
                 self.enter_at(Step::Inside, path, reads)
             }

@@ -6,4 +6,4 @@ use Rattle.fx_report.proofs.quotes.add_spelled_names.Given as goal
 
 abbrev pub invariant-loop-name : goal.invariant-loop-name
 invariant-loop-name l =
-    l.out.items ++ flat_map spelled (flat_map (λ name. 47 ∷ name) (iter_rest l.name-iterator)) ≡ l.fn.out.items ++ flat_map spelled (flat_map (λ name. 47 ∷ name) l.path)
+    l.out.items ++ flat_map spelled (flat_map (λ name. 47 ∷ name) l.name-iterator) ≡ l.fn.out.items ++ flat_map spelled (flat_map (λ name. 47 ∷ name) l.path)

@@ -15,7 +15,7 @@ returns-in_err-exists g c = record {
 pub returns-then-branch : goal.returns-then-branch
 returns-then-branch g c = record {
   enters = λ env part.
-      entry_inside g.R.Reader.meaning c.args.path.now env c.args.session.now c.exists.new.session part c.in_ok-exists.field-0 (inner_entry c.args.path.now (inner.Entry c.len.result)) c.if-branch.true refl refl refl (c.len.ensures.len ∙ ap length c.reads.ensures) c.in_ok-exists.ensures.follows;
+      entry_inside g.R.Reader.meaning c.args.path.now env c.args.session.now c.exists.new.session part c.in_ok-exists.field-0 (inner_entry c.args.path.now (inner.Inside c.len.result)) c.if-branch.true refl refl refl (c.len.ensures.len ∙ ap length c.reads.ensures) c.in_ok-exists.ensures.follows;
 }
 
 pub returns-else-branch : goal.returns-else-branch

@@ -3,5 +3,5 @@ use Rattle.fx_table.proofs.links.add_names.Given as goal
 
 abbrev pub invariant-loop-name : goal.invariant-loop-name
 invariant-loop-name l =
-    l.text.items ++ spelling (flat_map (λ name. 47 ∷ name) (iter_rest l.name-iterator))
+    l.text.items ++ spelling (flat_map (λ name. 47 ∷ name) l.name-iterator)
     ≡ l.fn.text.items ++ spelling (flat_map (λ name. 47 ∷ name) l.path)

@@ -1,5 +1,5 @@
-use Rattle.std.proofs.Common.{◌≡◌, ◌++◌, take}
+use Rattle.std.proofs.Common.{◌≡◌, ◌++◌}
 use Rattle.fx_view.proofs.component.with_names.Given as goal
 
 abbrev pub invariant-loop-name : goal.invariant-loop-name
-invariant-loop-name l = l.all ≡ l.fn.names ++ take l.name-index l.more
+invariant-loop-name l = l.all ++ l.name-iterator ≡ l.fn.names ++ l.more
