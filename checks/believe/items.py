@@ -17,7 +17,7 @@ _START = re.compile(
 )
 _NAME = re.compile(r"^(?:abbrev |unfoldable )?(?:pub )?(?:record |data )?(\S+)")
 _MUTUAL = re.compile(r"^(abbrev |unfoldable )?(pub )?mutual\b")
-_USE = re.compile(r"^(pub )?use ")
+_USE = re.compile(r"^(?:unfoldable )?(pub )?use ")
 
 
 class Import(NamedTuple):
@@ -119,7 +119,7 @@ def imports_of(lines: list[str]) -> dict[str, Import]:
         while whole.count("{") > whole.count("}") and k < len(lines):
             whole += " " + lines[k].strip()
             k += 1
-        several = re.match(r"^(?:pub )?use (\S+?)\.\{(.*)\}", whole)
+        several = re.match(r"^(?:unfoldable )?(?:pub )?use (\S+?)\.\{(.*)\}", whole)
         one = re.match(r"^(?:pub )?use (\S+)(?: as (\S+))?", whole)
         if several:
             for part in filter(None, (part.strip() for part in several.group(2).split(","))):
@@ -132,7 +132,7 @@ def imports_of(lines: list[str]) -> dict[str, Import]:
 
 def cut_specs(crate: str, rel: str, text: str) -> Specs:
     """The items of a file. `rel` is its path within the crate, as `specs/Order.antt`."""
-    module = rel[len("specs/") : -len(".antt")].replace("/", ".")
+    module = rel.partition("/")[2][: -len(".antt")].replace("/", ".")
     lines = text.split("\n")
     items = []
     for piece in _cut(lines, 0, len(lines), 0, ""):
@@ -174,7 +174,7 @@ def _cut(lines: list[str], first: int, last: int, indent: int, telescope: str) -
         elif is_head and body.startswith("--"):
             comment = k if comment is None else comment
             k += 1
-        elif is_head and re.match(r"^(pub )?(use|mod) ", body):
+        elif is_head and re.match(r"^(unfoldable )?(pub )?(use|mod) ", body):
             comment = None
             depth = line.count("{") - line.count("}")
             k += 1

@@ -6,15 +6,13 @@ use Rattle.std.proofs.lemmas.Bool.{cases_lt}
 use Rattle.std.proofs.lemmas.Option.{same_Some, none-some, slice_get_within}
 use Rattle.fx_expr.specs.Tree.{Tree}
 use Rattle.fx_spec.specs.declared.refusal.End.{End}
-use Rattle.fx_spec.specs.CommandTree.{CommandTree}
 use Rattle.fx_spec.specs.Plans.{Turn, txn_of}
 use Rattle.fx_spec.specs.Order.{BaseTree, state}
 use Rattle.fx_spec.specs.Transaction.{outputs, end}
 use Rattle.fx_spec.proofs.Orders.{state-front}
-use Rattle.fx_machine.specs.declared.entry.Entry.{Entry}
 use Rattle.fx_report.specs.declared.printed.PrintedEntry.{PrintedEntry}
 use Rattle.fx_report.specs.Entries.{commands_or_none, entry, entries_from, entries_of}
-use Rattle.fx_board.specs.Board.{IsEntry, settled, entry_turn}
+use Rattle.fx_board.specs.Board.{settled}
 use Rattle.fx_board.specs.Log.{Log}
 use Rattle.fx_audit.specs.Orders.{logged}
 use Rattle.fx_audit.specs.Verdicts.{turn_told, order_told, IsAnswered, AllAnswered, IsFirstUnanswered}
@@ -24,18 +22,6 @@ use Rattle.fx_audit.proofs.Fronts.{told_length, told_more, told_split}
 
 same_entry : (shell txn : ℕ) (os ps : List Tree) (d f : End) → os ≡ ps → d ≡ f → ◌≡◌ {A = PrintedEntry} (record { shell = shell; txn = txn; outputs = os; end = d }) (record { shell = shell; txn = txn; outputs = ps; end = f })
 same_entry shell txn os ps d f o e = cc
-
--- the entry of a transaction that comes to these outputs and this end
-entry_is : (base : BaseTree) (o : List Turn) (i : ℕ) (turn : Turn) (t : List CommandTree) (os : List Tree) (e : End) → txn_of base.plan turn ≡ Some t → outputs base.description t (get (state base o i)) ≡ os → end base.description t (get (state base o i)) ≡ e
-    → entry base o i turn ≡ record { shell = turn.0; txn = turn.1; outputs = os; end = e }
-entry_is base o i turn t os e planned printed ended =
-    let commands : commands_or_none (txn_of base.plan turn) ≡ t = ap commands_or_none planned in
-    same_entry turn.0 turn.1 _ os _ e (ap (λ t. outputs base.description t (get (state base o i))) commands ∙ printed) (ap (λ t. end base.description t (get (state base o i))) commands ∙ ended)
-
-pub told_is : (log : Log) (i : ℕ) (e : Entry) (told : PrintedEntry) → IsEntry log i e → slice_get log.order i ≡ Some (turn_told told) → entry log.base log.order i (turn_told told) ≡ record { shell = told.shell; txn = told.txn; outputs = e.outputs; end = e.end }
-told_is log i e told is stands =
-    let same : entry_turn e ≡ turn_told told = same_Some (entry_turn e) (turn_told told) (sym is.turn ∙ stands) in
-    entry_is log.base log.order i (turn_told told) is.txn e.outputs e.end (ap (txn_of log.base.plan) (sym same) ∙ is.planned) is.outputs is.end
 
 -- an entry of an order is that of each order that begins so
 pub entry_front : (base : BaseTree) (o more : List Turn) (i : ℕ) (turn : Turn) → i ≤ length o → entry base (o ++ more) i turn ≡ entry base o i turn

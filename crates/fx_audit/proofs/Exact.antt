@@ -1,5 +1,5 @@
 -- The verdict is yes exactly on the reports of complete orders with good retries.
-use Rattle.std.proofs.Common.{◌≡◌, ℕ, suc, ◌+◌, true, List, map, Result, Ok, Err, IfOk, refl, sym, ap, subst, ◌∙◌}
+use Rattle.std.proofs.Common.{◌≡◌, ℕ, suc, ◌+◌, List, map, Result, Ok, Err, IfOk, refl, sym, ap, subst, ◌∙◌}
 use Rattle.std.specs.Prelude.{◌↔◌}
 use Rattle.fx_spec.specs.Order.{BaseTree, IsComplete, RetriesOk}
 use Rattle.fx_machine.specs.declared.retry.Retry.{Retry}

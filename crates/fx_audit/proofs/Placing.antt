@@ -16,8 +16,6 @@ use Rattle.fx_audit.specs.Places.{AddsNext, ArePlaces, AreShellPlaces, places_of
 use Rattle.fx_audit.specs.Verdicts.{IsFirstMissing}
 use Rattle.fx_audit.proofs.Lists.{last_is, place_of}
 
--- ---- no entries
-
 -- ---- one entry more
 
 own_count : (o : List Turn) (shell txn : ℕ) → next_number (o ++ (shell, txn) ∷ []) shell ≡ suc (next_number o shell)
@@ -88,12 +86,6 @@ added base o shell txn place count planned table table' are at counted same plan
     subst (ArePlaces base (o ++ (shell, txn) ∷ [])) (sym (is ∙ ap (λ p. set table shell (places_of table shell ++ p ∷ [])) at))
     (places_more base o shell txn table are (record { next = same ∙ (counted ∙ (are.each shell).count); planned = omega (arith, plan, lt) }))
 
-pub not_next : (base : BaseTree) (o : List Turn) (shell txn count : ℕ) (table : List (List ℕ)) → ArePlaces base o table → count ≡ length (places_of table shell) → (txn ≡ count → ⊥) → IsNextIn base o (shell, txn) → ⊥
-not_next base o shell txn count table are counted other next = other (next.next ∙ (sym (are.each shell).count ∙ sym counted))
-
-pub not_planned : (base : BaseTree) (o : List Turn) (shell txn planned : ℕ) → planned ≡ count_of base.plan shell → planned ≤ txn → IsNextIn base o (shell, txn) → ⊥
-not_planned base o shell txn planned plan le next = let p = next.planned in omega (arith, plan, le, p)
-
 pub not_added : (base : BaseTree) (o : List Turn) (turn : Turn) (table : List (List ℕ)) (added : Bool) → AddsNext base o turn table added → added ≡ false → IsNextIn base o turn → ⊥
 not_added base o turn table true adds is next = let no : true ≡ false = is in cc
 not_added base o turn table false adds is next = adds next
@@ -106,15 +98,6 @@ stands o shell txn places are lt = Contains-at o (get_or places txn 0) (shell, t
 -- the scripts of the shells below this one are all there
 abbrev pub HasAllBelow : BaseTree → List (List ℕ) → ℕ → Type 0
 HasAllBelow base table n = (k : ℕ) → k < n → count_of base.plan k ≤ length (places_of table k)
-
-pub all_more : (base : BaseTree) (table : List (List ℕ)) (n count planned : ℕ) → HasAllBelow base table n → count ≡ length (places_of table n) → planned ≡ count_of base.plan n → planned ≤ count → HasAllBelow base table (n + 1)
-all_more base table n count planned all counted plan enough k lt = at (cases_lt k n)
-  where
-    at : (k < n) ⊎ (n ≤ k) → count_of base.plan k ≤ length (places_of table k)
-    at (inl less) = all k less
-    at (inr ge) =
-        let same : n ≡ k = omega (arith, lt, ge) in
-        subst (λ k. count_of base.plan k ≤ length (places_of table k)) same (omega (arith, counted, plan, enough))
 
 pub all_there : (base : BaseTree) (o : List Turn) (table : List (List ℕ)) (n : ℕ) → ArePlaces base o table → n ≡ length base.plan → HasAllBelow base table n → IsComplete base o
 all_there base o table n are count all = record {

@@ -1,5 +1,5 @@
 -- Retries, one by one and all together.
-use Rattle.std.proofs.Common.{◌≡◌, inl, inr, ℕ, zero, suc, ◌+◌, ◌<◌, ◌≤◌, Bool, true, List, [], ◌∷◌, ◌++◌, length, take, drop, map, slice_get, Option, Some, None, refl, sym, ap, subst, ◌∙◌, arith}
+use Rattle.std.proofs.Common.{◌≡◌, inl, inr, ℕ, zero, suc, ◌+◌, ◌≤◌, Bool, true, List, [], ◌∷◌, ◌++◌, length, take, drop, map, slice_get, Option, Some, None, refl, sym, ap, subst, ◌∙◌, arith}
 use Rattle.std.specs.Prelude.{IsTrue}
 use Rattle.std.specs.List.{All, Contains}
 use Rattle.std.proofs.lemmas.List.{map-append}
@@ -20,8 +20,6 @@ use Rattle.fx_board.specs.Log.{Log}
 use Rattle.fx_audit.specs.Retries.{IsCause, IsNextRetry, MayFollow}
 use Rattle.fx_audit.specs.Verdicts.{IsFirstUntrue}
 use Rattle.fx_audit.proofs.Lists.{split}
-
--- ---- one retry
 
 -- ---- their order
 
@@ -100,10 +98,6 @@ trees_more rs m r is = ap trees (take_next rs m r is) ∙ map-append retry_tree 
 pub record AreTried (base : BaseTree) (o : List Turn) (rs : List Retry) (m : ℕ) (last : Option RetryTree) : Type 0 where
   pub ok : RetriesOk base o (trees (take m rs))
   pub last_is : last ≡ last_of (trees (take m rs))
-
-pub tried_none : (base : BaseTree) (o : List Turn) (rs : List Retry) (last : Option RetryTree) → last ≡ None → AreTried base o rs 0 last
-tried_none base o [] last none = record { ok = record { each = All-nil (IsRetry base o); order = tt }; last_is = none }
-tried_none base o (r ∷ rs) last none = record { ok = record { each = All-nil (IsRetry base o); order = tt }; last_is = none }
 
 pub tried_more : (base : BaseTree) (o : List Turn) (rs : List Retry) (m : ℕ) (last : Option RetryTree) (r : Retry) → AreTried base o rs m last → slice_get rs m ≡ Some r → IsNextRetry base o last (retry_tree r) → AreTried base o rs (m + 1) (Some (retry_tree r))
 tried_more base o rs m last r are is next =

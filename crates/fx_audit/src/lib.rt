@@ -6,7 +6,6 @@ mod answers;
 mod auditing;
 mod order;
 mod places;
-mod present;
 mod replaying;
 mod retries;
 mod same;

@@ -9,13 +9,12 @@ ghost use Rattle.fx_board.specs.Board.{IsLog, settled, started};
 ghost use Rattle.fx_audit.specs.Present.{AreNow};
 ghost use Rattle.fx_audit.specs.Orders.{pair_turns, logged};
 
-use crate::present::Present;
 use fx_base::{Listed, NoMemory};
-use fx_board::{Attempt, Board, Pair, Settle};
+use fx_board::{Attempt, Board, Pair, Present, Settle};
 use fx_run::run;
 use fx_spec::Base;
 use fx_store::Filestore;
-use fx_view::Stop;
+use fx_view::{Reads, Stop};
 use std::alloc::Global;
 use std::sync::Arc;
 
@@ -36,9 +35,10 @@ fn attempt(
     ensures explained { IfOk result (IsExplained (base_tree base.now.value)) }
     ensures reads { IfOk result (λ a. AreNow board.now a.reads) }
 {
-    let mut reader = Present::new(alloc, board);
+    let reads = Reads::new(alloc);
+    let mut reader = Present::new(board, reads);
     let ended = run(alloc, base, shell, txn, &mut reader);
-    reader.let_go();
+    reader.into_reads().let_go();
     match ended {
         Ok(attempt) => Ok(attempt),
         Err(Stop::Needs(_)) => unreachable!(),

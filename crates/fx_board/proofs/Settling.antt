@@ -43,8 +43,6 @@ use Rattle.fx_board.proofs.Indexes.{changes_within, index_more, named, none_stal
 abbrev Path : Type 0
 Path = List (List ℕ)
 
--- ---- nodes that do not differ are the same
-
 -- ---- what stays where no entry changes it
 
 -- where no entry from some position on changes a path, what stood there stands there now

@@ -3,3 +3,4 @@ pub mod Index
 pub mod Board
 pub mod Growing
 pub mod Positions
+pub mod Present

@@ -1,9 +1,10 @@
 -- A log as contracts see it: its base, and its commit order.
-use Rattle.std.specs.Prelude.{ℕ, List, refl}
+use Rattle.std.specs.Prelude.{List, refl}
 use Rattle.std.specs.Coded.{Coded, code_by, coded×, coded_list, coded_ℕ}
 use Rattle.std.specs.FinMap as map
 use Rattle.fx_store.specs.Whole.{Nodes}
 use Rattle.fx_store.specs.contracts.node.Node as node
+use Rattle.fx_store.specs.Filestore.{path_code}
 use Rattle.fx_spec.specs.SpecTree.{SpecTree}
 use Rattle.fx_spec.specs.CommandTree.{CommandTree}
 use Rattle.fx_spec.specs.Codes.{coded_spec, coded_commands}
@@ -13,9 +14,6 @@ use Rattle.fx_spec.specs.Order.{BaseTree}
 pub record Log : Type 0 where
   pub base : BaseTree
   pub order : List Turn
-
-abbrev path_code : Coded (List (List ℕ))
-path_code = coded_list (coded_list coded_ℕ)
 
 abbrev pub plan_code : Coded (List (List (List CommandTree)))
 plan_code = coded_list (coded_list coded_commands)

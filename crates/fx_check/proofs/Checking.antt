@@ -20,7 +20,7 @@ use Rattle.fx_check.specs.declared.fault.CheckFault.{CheckFault}
 use Rattle.fx_check.specs.declared.fault.CheckFault.TheVariants as check
 use Rattle.fx_check.specs.Gives.{Gives, IsFault}
 use Rattle.fx_check.specs.Faults.{Fault, OrFault, ◌>>=◌}
-use Rattle.fx_check.specs.Shaped.{needed, allowed, is_comparable, is_ordered, is_sized, is_table, first_part, second_needed, result_shape, two_shape, one_shape, followed_by, first_of, second_of, keys_of, present_of, named, shaped}
+use Rattle.fx_check.specs.Shaped.{needed, allowed, is_comparable, is_ordered, is_sized, first_part, second_needed, result_shape, two_shape, one_shape, followed_by, first_of, second_of, keys_of, present_of, named, shaped}
 use Rattle.fx_check.specs.Checked.{unless_bound, with_name, shaped_as, asked_of, checked_arguments, checked, checked_act, assigned, checked_command, checked_block, checked_inner, checked_txns}
 
 -- ---- one check after another
@@ -37,8 +37,6 @@ both (Err fault) f y e = absurd (cc)
 
 pub given : {X Y : Type 0} (o : OrFault X) (f : X → OrFault Y) (x : X) → o ≡ Ok x → (o >>= f) ≡ f x
 given o f x e = ap (λ o. o >>= f) e
-
--- ---- equal shapes
 
 -- ---- parts
 
@@ -70,10 +68,6 @@ needed_other expected found other = by (same_shape expected found) (λ e. other 
     by : (b : Bool) → (b ≡ true → ⊥) → cond {A = OrFault ShapeTree} b (Ok found) (Err (Fault.differs expected found)) ≡ Err (Fault.differs expected found)
     by true differ = absurd (differ refl)
     by false differ = refl
-
-pub not_table : (t : ShapeTree) → is_table t ≡ false → keys_of t ≡ Err (Fault.differs (ShapeTree.table ShapeTree.str) t)
-not_table (ShapeTree.table s) e = absurd (cc)
-not_table _ e = refl
 
 -- ---- operators
 
@@ -637,23 +631,6 @@ fault_then (check.TypeDiffers expected found) o f e = ap (λ o. o >>= f) e
 fault_then (check.Repeated word) o f e = ap (λ o. o >>= f) e
 fault_then check.TooMany o f e = ap (λ o. o >>= f) e
 fault_then check.NoMemory o f e = tt
-
-pub last_is : {A : Type 0} (xs ys : List A) (x y : A) → xs ++ x ∷ [] ≡ ys ++ y ∷ [] → (xs ≡ ys) × (x ≡ y)
-last_is [] [] x y e = (refl, cc)
-last_is [] (b ∷ ys) x y e = absurd (nothing_behind ys y (let rest : [] ≡ ys ++ y ∷ [] = cc in rest))
-  where
-    nothing_behind : {A : Type 0} (ys : List A) (y : A) → [] ≡ ys ++ y ∷ [] → ⊥
-    nothing_behind [] y e = cc
-    nothing_behind (b ∷ ys) y e = cc
-last_is (a ∷ xs) [] x y e = absurd (nothing_behind xs x (let rest : xs ++ x ∷ [] ≡ [] = cc in rest))
-  where
-    nothing_behind : {A : Type 0} (xs : List A) (x : A) → xs ++ x ∷ [] ≡ [] → ⊥
-    nothing_behind [] x e = cc
-    nothing_behind (b ∷ xs) x e = cc
-last_is (a ∷ xs) (b ∷ ys) x y e =
-    let rest : (xs ≡ ys) × (x ≡ y) = last_is xs ys x y (cc) in
-    let same : a ≡ b = cc in
-    ((λ i. same i ∷ rest.0 i), rest.1)
 
 pub pair_checked : (defs : List DefTree) (g inner : Scope) (x : List ℕ) (a b : WrittenTree) (s t : ShapeTree) → checked defs g a ≡ Ok s → with_name g x s ≡ Ok inner
     → checked defs inner b ≡ Ok t → checked defs g (WrittenTree.pair x a b) ≡ Ok (ShapeTree.pair s t)

@@ -8,30 +8,13 @@ use Rattle.fx_check.specs.Faults.{Fault}
 use Rattle.fx_check.specs.Gives.{IsFault}
 use Rattle.fx_check.proofs.Texts.{is_text}
 use Rattle.fx_expr.specs.Views.{shape_tree}
-use Rattle.fx_grammar.specs.Refused.{IsRefusedDescription}
 use Rattle.fx_grammar.specs.Texts as texts
-use Rattle.fx_parse.specs.declared.fault.ParseFault.{ParseFault}
-use Rattle.fx_parse.specs.declared.fault.ParseFault.TheVariants as parse
 use Rattle.fx_spec.specs.WellShaped.{IsChecked}
 use Rattle.fx_spec.specs.Written.{TextTree}
 use Rattle.fx_command.specs.declared.status.TextFault.{TextFault}
 use Rattle.fx_command.specs.declared.status.TextFault.TheVariants as fault
 use Rattle.fx_command.specs.Described.{HasDescriptionCause, IsRefusedFor, IsUndescribed}
-use Rattle.fx_command.specs.Faults.{of_parse, of_check}
-
--- no fault but want of memory comes where the text stands for a description
-abbrev OnlyMemory : List ℕ → ParseFault → Type 0
-OnlyMemory text f = (written : TextTree) → texts.IsDescription text written → f ≡ parse.NoMemory
-
-refused : (text : List ℕ) (cause : TextFault) (f : ParseFault) → (f ≡ parse.NoMemory → ⊥) → OnlyMemory text f → HasDescriptionCause text cause → IsRefusedFor text cause
-refused text cause f isnt only has = record { none = λ spec is. isnt (only is.written is.read); cause = has }
-
-pub not_parsed : (text : List ℕ) (f : ParseFault) → OnlyMemory text f → IsRefusedDescription text f → IsUndescribed text (of_parse f)
-not_parsed text parse.TooLarge only has = refused text fault.TooLarge parse.TooLarge (λ e. cc) only has
-not_parsed text (parse.BadToken n) only has = refused text (fault.BadToken n) (parse.BadToken n) (λ e. cc) only has
-not_parsed text (parse.Unexpected n) only has = refused text (fault.Unexpected n) (parse.Unexpected n) (λ e. cc) only has
-not_parsed text (parse.TooNested n) only has = refused text (fault.TooNested n) (parse.TooNested n) (λ e. cc) only has
-not_parsed text parse.NoMemory only has = tt
+use Rattle.fx_command.specs.Faults.{of_check}
 
 -- a description that is well shaped has no fault
 pub no_fault : (written : TextTree) → IsChecked written → IsOk (checked_text written)

@@ -7,7 +7,7 @@ use Rattle.std.proofs.lemmas.Bool.{false≢true}
 use Rattle.std.proofs.lemmas.List.{append-nil, take_all, drop-take, length-take, length-drop, map-append, drop-drop}
 use Rattle.std.proofs.lemmas.Bool.Decides.{nat_tests}
 use Rattle.fx_base.specs.Limits.{txn_limit}
-use Rattle.fx_durable.specs.Journal.{turn_before, reading, is_open, turn_in, turn_of, turns_of, IsReadImage, ReadsOrder, IsUnread, HasJournalFault, IsCalm}
+use Rattle.fx_durable.specs.Journal.{turn_before, reading, is_open, turn_in, turn_of, turns_of, IsReadImage, ReadsOrder, HasJournalFault, IsCalm}
 use Rattle.fx_durable.specs.Disk.{File, DiskView, IsAsTold, TellsLength}
 use Rattle.fx_durable.specs.declared.journal_fault.JournalFault.{JournalFault}
 use Rattle.fx_durable.specs.declared.journal_fault.JournalFault.TheVariants as fault
@@ -168,8 +168,3 @@ reads_calm old new (Ok pairs) calm = calm
 reads_calm old new (Err (fault.Broken place)) calm = calm
 reads_calm old new (Err fault.Failed) calm = tt
 reads_calm old new (Err fault.NoMemory) calm = tt
-
-pub unread_calm : (old new : DiskView) (e : JournalFault) → IsUnread e → IsCalm {A = List Pair} old new (Err e)
-unread_calm old new (fault.Broken n) unread = absurd unread
-unread_calm old new fault.Failed unread = tt
-unread_calm old new fault.NoMemory unread = tt

@@ -4,7 +4,8 @@ use Rattle.fx_store.specs.declared.node.Node.{Node}
 use Rattle.fx_store.specs.declared.node.Node.TheVariants.{File, Dir, Link}
 use Rattle.fx_store.specs.Rule.{Answer}
 use Rattle.fx_spec.specs.Edit.{set_to, renewed, replaced}
-use Rattle.fx_edit.specs.Kinds.{is_file, is_link, old_file}
+use Rattle.fx_store.specs.Kinds.{is_file, is_link}
+use Rattle.fx_edit.specs.Kinds.{old_file}
 
 abbrev Path : Type 0
 Path = List (List ℕ)

@@ -21,8 +21,6 @@ use Rattle.fx_session.specs.declared.session.Session.{Session}
 use Rattle.fx_session.specs.Implements.{Answers}
 use Rattle.fx_edit.specs.Edits.{Edits, done, under}
 
--- ---- own changes that are put on top
-
 -- ---- the three ways that an edit goes
 
 module _ {R L : Type 0} {m : Meaning R} {old mid : Session R L} {rule : Ask (Answered (List Change))} where

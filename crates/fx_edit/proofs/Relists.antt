@@ -139,9 +139,6 @@ module _ (q a b : List (List ℕ)) (n : List ℕ) (x y : Bool) (next : IsLeastNa
       ∙ adding-entries (entry q a b) so_far n (set_of (c ++ d))
       ∙ (λ i. adding so_far (change_at_name q n (has_first x a n next.first i) (has_first y b n next.second i)) >>= λ cs. adding cs (same_entries (entry q a b) (entry q c d) (set_of (c ++ d)) (alike (set_of (c ++ d)) above) i))
 
-none_left : (q a b : List (List ℕ)) (so_far : List Change) → set_of (a ++ b) ≡ [] → adding so_far (changed_entries q a b) ≡ Answer so_far
-none_left q a b so_far e = ap (λ ns. adding so_far (entries (entry q a b) ns)) e ∙ adding-none so_far
-
 -- ---- the names that both sets have are passed
 
 -- from the first two sets to the others no entry changes
@@ -199,9 +196,6 @@ module _ (a b c d : List (List ℕ)) (passed : ArePassed a b c d) where
 
   pub new_alone : (n : List ℕ) (f : List (List ℕ)) → c ≡ [] → d ≡ n ∷ f → AreLeft b c f × IsNextChange a b n true c f
   new_alone n f none news = new_by n f (next_second c d n f passed.left.news none news) news
-
-  pub both_end : c ≡ [] → d ≡ [] → AreLeft b c d × AreAlike a b
-  both_end none nil = (passed.left, λ q before. passed.alike q before ∙ none_left q c d before (λ i. set_of (none i ++ nil i)))
 
   module _ (s t : List ℕ) (e f : List (List ℕ)) (olds : c ≡ s ∷ e) (news : d ≡ t ∷ f) where
     pub old_less : slice_cmp nat_cmp s t ≡ Less → AreLeft b e d × IsNextChange a b s false e d

@@ -7,7 +7,7 @@ use Rattle.fx_store.specs.declared.node.Node.TheVariants.{Dir}
 use Rattle.fx_store.specs.declared.changes.Change.{Change}
 use Rattle.fx_store.specs.Resolve.{parent}
 use Rattle.fx_store.specs.Rule.{Ask, Answer, Look, ◌>>=◌}
-use Rattle.fx_spec.specs.Edit.{set_to, names_of, clear, without_name, remove_entry}
+use Rattle.fx_spec.specs.Edit.{set_to, names_of, clear, remove_entry}
 use Rattle.fx_spec.specs.declared.refusal.Refusal.{Refusal}
 use Rattle.fx_spec.specs.Move.{Answered}
 use Rattle.fx_view.specs.declared.reader.Stop.{Stop}
@@ -18,6 +18,7 @@ use Rattle.fx_session.specs.Implements.{Implements}
 use Rattle.fx_session.proofs.Calls.{then_on, stops, then_refused}
 use mathlib.Core.Path.{fun_ext}
 use Rattle.fx_base.proofs.Lists.{none_past}
+use Rattle.fx_base.specs.Sets.{without_name}
 use Rattle.fx_edit.specs.Rules.{adding, edit_answer, removing, HasLast}
 use Rattle.fx_edit.proofs.Addings.{editing-first}
 use Rattle.fx_edit.proofs.Exits.{by_rule, gathered, ungathered}

@@ -1,25 +1,8 @@
--- Kinds of nodes.
-use Rattle.std.specs.Prelude.{Bool, true, false, [], length, nat_lt, Option, Some, None}
+-- What stood where a node is stored.
+use Rattle.std.specs.Prelude.{Bool, false, [], length, nat_lt, Option, Some}
 use Rattle.fx_store.specs.declared.node.Node.{Node}
 use Rattle.fx_store.specs.declared.node.Node.TheVariants.{File, Dir, Link}
-
-abbrev pub is_file : Option Node → Bool
-is_file None = false
-is_file (Some (File bytes exec)) = true
-is_file (Some (Dir names)) = false
-is_file (Some (Link text)) = false
-
-abbrev pub is_dir : Option Node → Bool
-is_dir None = false
-is_dir (Some (File bytes exec)) = false
-is_dir (Some (Dir names)) = true
-is_dir (Some (Link text)) = false
-
-abbrev pub is_link : Option Node → Bool
-is_link None = false
-is_link (Some (File bytes exec)) = false
-is_link (Some (Dir names)) = false
-is_link (Some (Link text)) = true
+use Rattle.fx_store.specs.Kinds.{is_file, is_dir, is_link}
 
 -- whether a node of this kind is there
 abbrev pub is_alike : Node → Option Node → Bool

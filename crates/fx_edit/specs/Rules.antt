@@ -7,8 +7,9 @@ use Rattle.fx_store.specs.Changes.{changed_paths}
 use Rattle.fx_store.specs.Resolve.{◌/ₚ◌, parent, resolve}
 use Rattle.fx_store.specs.Rule.{Ask, Answer, Look, look_all, ◌>>=◌}
 use Rattle.fx_expr.specs.Sets.{IsAscending, set_of, with_text}
-use Rattle.fx_spec.specs.Edit.{set_to, removed, names_of, entry, entries, clear, children, without_name, follows_last, store_landed, create_landed, remove_landed}
+use Rattle.fx_spec.specs.Edit.{set_to, removed, names_of, entry, entries, clear, children, follows_last, store_landed, create_landed, remove_landed}
 use Rattle.fx_spec.specs.Move.{Answered}
+use Rattle.fx_base.specs.Sets.{without_name}
 
 -- the changes of a rule, after some others
 abbrev pub adding : List Change → Ask (List Change) → Ask (List Change)

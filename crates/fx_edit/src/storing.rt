@@ -9,7 +9,8 @@ ghost use Rattle.fx_view.specs.Own.{own_at, SameOver};
 ghost use Rattle.fx_session.specs.Places.{place_tree};
 ghost use Rattle.fx_edit.specs.Edits as says;
 ghost use Rattle.fx_edit.specs.Edits.{done, IsNextSet};
-ghost use Rattle.fx_edit.specs.Kinds.{is_file, is_dir, is_link, is_alike, old_file};
+ghost use Rattle.fx_store.specs.Kinds.{is_file, is_dir, is_link};
+ghost use Rattle.fx_edit.specs.Kinds.{is_alike, old_file};
 ghost use Rattle.fx_edit.specs.Rules.{store_there};
 
 use crate::edits::Edits;

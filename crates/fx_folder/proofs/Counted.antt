@@ -1,5 +1,5 @@
 -- The entries of a whole filestore's folder: in their order, and how many there are.
-use Rattle.fx_folder.proofs.Prelude.{Held, all_bytes, counted_bytes, sizes_of, host_entry, both, first, second, Entry, file, folder, path_cmp, path_eq_same, Node, Dir, File, Link, found, Mapped, TableLink, line_at, links_among, TableLine, List, None, Option, Some, T, [], ap, arith, cond, false, inl, inr, length, option_map, refl, subst, sum_by, sym, true, ℕ, ◌+◌, ◌<◌, ◌∙◌, ◌∷◌, ◌≡◌, ◌≤◌, cases_Bool, nat_tests, sum_by-cons, find, is_sorted, below_all, filter_map, eq_by_cmp, is_lt, nat_lt}
+use Rattle.fx_folder.proofs.Prelude.{Held, all_bytes, counted_bytes, sizes_of, host_entry, both, first, second, Entry, file, folder, path_cmp, path_eq_same, Node, Dir, File, Link, found, Mapped, TableLink, line_at, links_among, TableLine, List, None, Option, Some, T, [], ap, arith, cond, false, inl, inr, length, option_map, refl, subst, sym, true, ℕ, ◌+◌, ◌<◌, ◌∙◌, ◌∷◌, ◌≡◌, ◌≤◌, cases_Bool, nat_tests, sum_by-cons, find, is_sorted, below_all, filter_map, eq_by_cmp, is_lt, nat_lt, link_bytes}
 pub use Rattle.fx_folder.proofs.Ordered.{none_behind}
 
 abbrev Paths : Type 0
@@ -103,13 +103,10 @@ lines_in es = filter_map line_at es
 abbrev pub links_in : List Mapped → List TableLink
 links_in es = links_among (lines_in es)
 
-abbrev pub texts_of : List TableLink → ℕ
-texts_of links = sum_by (λ (l : TableLink). length l.text) links
-
 pub more_bytes : (h : Held) (hs : List Held) → all_bytes (h ∷ hs) ≡ length h.1.bytes + all_bytes hs
 more_bytes h hs = sum_by-cons (λ (x : Held). length x.1.bytes) h hs
 
-more_texts : (l : TableLink) (ls : List TableLink) → texts_of (l ∷ ls) ≡ length l.text + texts_of ls
+more_texts : (l : TableLink) (ls : List TableLink) → link_bytes (l ∷ ls) ≡ length l.text + link_bytes ls
 more_texts l ls = sum_by-cons (λ (x : TableLink). length x.text) l ls
 
 more_sizes : (e : Mapped) (es : List Mapped) → sizes_of (e ∷ es) ≡ counted_bytes e.1 + sizes_of es
@@ -132,7 +129,7 @@ all_counted ((n ∷ r, Dir names) ∷ es) up = let rest = all_counted es (rest_b
 all_counted ((n ∷ r, Link text) ∷ es) up = let rest = all_counted es (rest_behind (n ∷ r, Link text) es up) in omega arith
 
 -- and all bytes are those of entries and of links
-all_summed : (es : List Mapped) → T (below_all path_cmp [] es) → sizes_of es ≡ all_bytes (held_of es) + texts_of (links_in es)
+all_summed : (es : List Mapped) → T (below_all path_cmp [] es) → sizes_of es ≡ all_bytes (held_of es) + link_bytes (links_in es)
 all_summed [] up = omega arith
 all_summed (([], node) ∷ es) up = absurd (no_second node es up)
 all_summed ((n ∷ r, File bytes true) ∷ es) up =
@@ -162,10 +159,10 @@ counted es names rest is up =
     let sorted = subst (λ l. T (is_sorted path_cmp l)) is up in
     subst (λ l. length l ≡ length (held_of l) + length (links_in l) + 1) (sym is) (let all = all_counted rest (first (below_all path_cmp [] rest) _ sorted) in omega arith)
 
-pub summed : (es : List Mapped) (names : List (List ℕ)) (rest : List Mapped) → es ≡ ([], Dir names) ∷ rest → T (is_sorted path_cmp es) → sizes_of es ≡ all_bytes (held_of es) + texts_of (links_in es)
+pub summed : (es : List Mapped) (names : List (List ℕ)) (rest : List Mapped) → es ≡ ([], Dir names) ∷ rest → T (is_sorted path_cmp es) → sizes_of es ≡ all_bytes (held_of es) + link_bytes (links_in es)
 summed es names rest is up =
     let sorted = subst (λ l. T (is_sorted path_cmp l)) is up in
-    subst (λ l. sizes_of l ≡ all_bytes (held_of l) + texts_of (links_in l)) (sym is) (
+    subst (λ l. sizes_of l ≡ all_bytes (held_of l) + link_bytes (links_in l)) (sym is) (
     let all = all_summed rest (first (below_all path_cmp [] rest) _ sorted) in
     let more = more_sizes ([], Dir names) rest in
     omega arith)

@@ -1,5 +1,5 @@
 -- What was walked, with the links of the table, is what the definition of loading gives.
-use Rattle.fx_folder.proofs.Prelude.{some_of, Held, all_below, all_bytes, as_nodes, lacking, lines_or_cause, linked, loaded, node_of_kind, table_file_lines, table_in, unless_refused, unlisted, walked, with_table, AreFoundChanges, HasDir, IsFoundChange, IsFoundNode, AnswersAs, loads, IsReadAt, path_below, HasBadLine, IsLineCause, exceed_limits, AnswersFound, AnswersText, HasTable, IsJoined, items_in, room_behind, table_text_or_cause, AnswersWalk, found_as, Loader, sorted_test, strictly_sorted, Names, Parts, parts, Entry, Lists, Tree, bytes_at, entry_at, is_file_at, is_file_kind, is_folder_at, HostKind, IsChanges, change_at, changed_paths, IsPath, path_cmp, path_eq_same, Store, Change, Node, Dir, File, Link, bytes_flags, lines_made, lines_merge, IsLinked, set_at, mapped_changes, bytes_linked, found, body_read, lacks_none, AreLines, LinesCause, ReadsAll, is_over, lines_in, link_bytes, standing_by, Mapped, listed, with_flag, with_flags, with_lines, mapped_of, node_or_dir, CanMerge, place_of, table_name, AreOfBytes, AreShaped, IsNodeBounded, IsOfBytes, IsTreeShaped, change_of, changes_of, IsTable, TableLink, lacks_flags, links_among, over, read_body, BeginsWith, IsFirstBadLine, FolderCause, BadName, BadTable, Strange, TooLarge, LoadFault, NoMemory, ReadFault, Refused, Bool, Err, IfErr, IfOk, IfSome, List, None, Ok, Option, Result, Some, [], ap, arith, cond, false, inl, inr, length, map, option_map, refl, subst, sym, true, ℕ, ◌++◌, ◌+◌, ◌-◌, ◌<◌, ◌||◌, ◌∙◌, ◌∷◌, ◌≡◌, ◌≤◌, nat_tests, find, get, Global, AllByRecursion, IsStrictlySortedBy, keys_of, option_map_or, eq_by_cmp, Vec, nat_lt, unwrap_or, MAX_BYTES, MAX_NODES, MAX_TABLE}
+use Rattle.fx_folder.proofs.Prelude.{some_of, Held, all_below, all_bytes, lacking, lines_or_cause, linked, loaded, node_of_kind, table_file_lines, table_in, unless_refused, unlisted, walked, with_table, AreFoundChanges, HasDir, IsFoundChange, IsFoundNode, IsReadAt, path_below, HasBadLine, IsLineCause, exceed_limits, AnswersFound, AnswersText, HasTable, IsJoined, items_in, room_behind, table_text_or_cause, AnswersWalk, found_as, Loader, sorted_test, strictly_sorted, Names, Parts, parts, Entry, Lists, Tree, bytes_at, entry_at, is_file_at, is_file_kind, is_folder_at, HostKind, IsChanges, change_at, changed_paths, IsPath, path_cmp, path_eq_same, Store, Change, Node, Dir, File, Link, bytes_flags, lines_made, lines_merge, IsLinked, set_at, mapped_changes, bytes_linked, found, body_read, lacks_none, AreLines, LinesCause, ReadsAll, is_over, lines_in, link_bytes, standing_by, Mapped, listed, with_flag, with_flags, with_lines, mapped_of, node_or_dir, CanMerge, place_of, table_name, AreOfBytes, AreShaped, IsNodeBounded, IsOfBytes, IsTreeShaped, change_of, changes_of, IsTable, TableLink, lacks_flags, links_among, over, read_body, BeginsWith, IsFirstBadLine, FolderCause, BadName, BadTable, Strange, TooLarge, LoadFault, NoMemory, ReadFault, Refused, Bool, Err, IfErr, IfOk, IfSome, List, None, Ok, Option, Result, Some, [], ap, arith, cond, false, inl, inr, length, map, option_map, refl, subst, sym, true, ℕ, ◌++◌, ◌+◌, ◌-◌, ◌<◌, ◌||◌, ◌∙◌, ◌∷◌, ◌≡◌, ◌≤◌, nat_tests, find, get, Global, AllByRecursion, IsStrictlySortedBy, keys_of, option_map_or, eq_by_cmp, Vec, nat_lt, unwrap_or, MAX_BYTES, MAX_NODES, MAX_TABLE}
 use Rattle.std.proofs.lemmas.List.{length-map}
 use Rattle.std.proofs.lemmas.Option.{IfSome_then}
 use Rattle.fx_base.proofs.Lists.{same_heads}
@@ -325,12 +325,6 @@ bare_told (Some t) at w names all are lists walk none is =
     by : (o : Option Entry) → option_map (λ e. e.kind) o ≡ None → o ≡ None
     by None e = refl
     by (Some x) e = cc
-
-pub cause_told : (told : Option Tree) (folder : List ℕ) (fault : LoadFault) → IfSome told (λ t. AnswersFound t (parts folder) (Err fault)) → IfSome told (λ t. is_folder_at t folder ≡ true → AnswersAs (loads t folder) (Err fault))
-cause_told None folder fault answer = tt
-cause_told (Some t) folder (Refused cause) answer = λ here. ap as_nodes answer
-cause_told (Some t) folder ReadFault answer = λ here. tt
-cause_told (Some t) folder NoMemory answer = λ here. tt
 
 pub text_read : (told : Option Tree) (p q : List ℕ) (text : List ℕ) → q ≡ p → length text ≤ MAX_TABLE → IfSome told (λ t. IsReadAt t q MAX_TABLE text) → IfSome told (λ t. AnswersText (table_text_or_cause kind.File (bytes_at t p)) (Ok text))
 text_read told p q text same short reads =

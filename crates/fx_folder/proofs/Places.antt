@@ -57,11 +57,6 @@ known true true o c d e = refl
 known true false o c d e = cc
 known false b o c d e = cc
 
-unknown : (a b : Bool) (o : Option FolderCause) (c d cause : FolderCause) → cond a (cond b None (Some c)) (Some d) ≡ Some cause → cond a (cond b o (Some c)) (Some d) ≡ Some cause
-unknown true true o c d cause e = cc
-unknown true false o c d cause e = e
-unknown false b o c d cause e = e
-
 entry_known : (nodes left : ℕ) (p : Parts) (e : Entry) → refused_path nodes p ≡ None → refused_entry nodes left (p, e) ≡ option_or (refused_kind p e.kind) (refused_bytes left p e.bytes)
 entry_known nodes left p e none = known (is_name (last_name p)) (nat_le (length p) 64 && nat_lt nodes MAX_NODES) _ _ _ none
 

@@ -32,7 +32,8 @@ pub use Rattle.fx_store.proofs.Landings.{listing_is_dir}
 pub use Rattle.fx_store.proofs.PathLists.{rest_append, rest_is}
 pub use Rattle.fx_store.proofs.Stores.{IsWhole-same}
 pub use Rattle.fx_store.specs.Changes.{IsChanges, change_at, changed_paths}
-pub use Rattle.fx_store.specs.Names.{IsName, IsPath, has, is_name, is_nul, is_reserved, is_slash, path_cmp}
+pub use Rattle.fx_store.specs.Kinds.{is_dir, is_file}
+pub use Rattle.fx_store.specs.Names.{IsName, IsPath, has, is_name, is_nul, is_reserved, is_slash, path_cmp, rest_of}
 pub use Rattle.fx_store.specs.Orders.{path_eq_same, path_same, path_total}
 pub use Rattle.fx_store.specs.Resolve.{parent}
 pub use Rattle.fx_store.specs.Whole.{IsNode, Nodes, Store, lists}
@@ -61,10 +62,10 @@ pub use Rattle.fx_table.specs.Lines.{AreLines, LinesCause, ReadsAll, is_over, li
 pub use Rattle.fx_table.specs.Listed.{Mapped, listed, names_below, with_flag, with_flags, with_lines, with_links}
 pub use Rattle.fx_table.specs.Mapped.{mapped_of, node_or_dir}
 pub use Rattle.fx_table.specs.Merges.{CanMerge}
-pub use Rattle.fx_table.specs.Places.{place_of, rest_of, table_name}
+pub use Rattle.fx_table.specs.Places.{place_of, table_name}
 pub use Rattle.fx_table.specs.Remaining.{IsLeftBelow, TakesPath, left_of}
 pub use Rattle.fx_table.specs.Shaped.{AreOfBytes, AreShaped, IsNodeBounded, IsOfBytes, IsTreeShaped, change_of, changes_of}
-pub use Rattle.fx_table.specs.Table.{IsLine, IsTable, Setting, TableLink, body_of, can_mark, first_number, flag_at, has_flags, has_place, is_dir, is_file, is_second, lacks_flags, line_at, line_of, lines_before, lines_of, lines_text, link_in_line, links_among, over, read_body, setting_of, table_text, version_line}
+pub use Rattle.fx_table.specs.Table.{IsLine, IsTable, Setting, TableLink, body_of, can_mark, first_number, flag_at, has_flags, has_place, is_second, lacks_flags, line_at, line_of, lines_before, lines_of, lines_text, link_in_line, links_among, over, read_body, setting_of, table_text, version_line}
 pub use Rattle.fx_table.specs.TableLaws.{BeginsWith, IsFirstBadLine, IsFirstBadOf, but_no_link, unlinked}
 pub use Rattle.fx_table.specs.declared.fault.FolderCause.{FolderCause}
 pub use Rattle.fx_table.specs.declared.fault.FolderCause.TheVariants.{BadName, BadTable, Strange, TooLarge}

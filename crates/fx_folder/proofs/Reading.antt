@@ -2,7 +2,6 @@
 use Rattle.fx_folder.proofs.Prelude.{IsReadAt, path_below, at_then, fault_in, reads_none, reads_then, AsksAt, FaultIn, HasFailed, HostView, ReadsAt, ReadsOnly, Tree, bytes_at, is_file_at, HostFault, LoadFault, ReadFault, Bool, Err, IfSome, List, None, Ok, Option, Result, Some, [], ap, arith, drop, false, inl, inr, length, length-append, length-drop, length-take, refl, subst, sym, take, true, ℕ, ◌++◌, ◌+◌, ◌<◌, ◌∙◌, ◌≡◌, ◌≤◌, take-length, false≢true}
 use Rattle.std.specs.Prelude.{IsErr, IsSomeAnd}
 use Rattle.std.proofs.Math.Seq.{take-add}
-use Rattle.std.proofs.lemmas.Option.{IfSome_then}
 use Rattle.fx_outside.specs.Host.{FaultAt, HasCause, IsFaultless, TellsBytes}
 use Rattle.fx_outside.specs.declared.kind.HostFault.TheVariants.{Failed, NoMemory}
 use Rattle.fx_table.specs.Faults.{load_fault}
@@ -58,14 +57,6 @@ front_end tree path limit text buffer n none front piece =
       whole = λ _. front.front ∙ ap (λ k. take k (bytes_at tree path)) all ∙ take-length (bytes_at tree path);
     }
 
-front_full : (tree : Tree) (path : List ℕ) (limit : ℕ) (text : List ℕ) → limit < length text → IsFrontAt tree path text → IsReadAt tree path limit text
-front_full tree path limit text full front = record {
-  file = front.file (omega arith);
-  front = front.front;
-  within = front.within;
-  whole = λ short. absurd (omega arith);
-}
-
 told_none : (told : Option Tree) (path : List ℕ) → IfSome told (λ tree. IsFrontAt tree path [])
 told_none None path = tt
 told_none (Some tree) path = record { file = λ some. absurd (omega (arith, some)); front = refl; within = omega arith }
@@ -86,9 +77,6 @@ module _ (old host host' : HostView) (path text buffer : List ℕ) (from n : ℕ
 
   pub ends : (limit : ℕ) → n ≡ 0 → IfSome old.told (λ tree. IsReadAt tree path limit text)
   ends limit none = if_some_both (λ tree. IsFrontAt tree path text) (λ tree. IsNext tree path text buffer n) (λ tree. IsReadAt tree path limit text) old.told (λ tree. front_end tree path limit text buffer n none) was.front more
-
-pub is_full : (old host : HostView) (path : List ℕ) (limit : ℕ) (text : List ℕ) → IsReading old host path text → limit < length text → IfSome old.told (λ tree. IsReadAt tree path limit text)
-is_full old host path limit text was full = IfSome_then old.told was.front (λ tree. front_full tree path limit text full)
 
 -- a file that is told is read, unless the host fails in the folder
 never_missing : (told : Option Tree) (path : List ℕ) → IfSome told (λ tree. is_file_at tree path ≡ true) → IsSomeAnd told (λ tree. is_file_at tree path ≡ false) → ⊥

@@ -1,5 +1,5 @@
 -- The folder of a whole filestore is loaded as this filestore.
-use Rattle.fx_folder.proofs.Prelude.{none_if_never, HasFolderOf, Held, all_below, all_bytes, as_nodes, deep_loads, first_refused, is_table_place, lacking, last_name, lines_or_cause, linked, refused_entry, refused_kind, table_entry, table_in, table_lines, unless_refused, unlisted, walked, with_table, FoldersAreLoaded, IsWithinLimits, host_entry, sorted_test, strictly_sorted, parts_cmp, Entry, Tree, file, folder, HostKind, IsName, has, is_name, path_cmp, path_same, path_total, parent, IsNode, Nodes, Store, lists, Node, Dir, File, Link, sorted_flags, find_listed, found, has_below, names_ascend, relisted, AreFound, all_found, lines_are_tables, body_read, lacks_none, Mapped, listed, names_below, with_flags, with_lines, with_links, place_of, table_name, IsTable, TableLink, can_mark, is_dir, is_file, lines_of, links_among, over, read_body, table_text, but_no_link, unlinked, FolderCause, BadTable, TooLarge, Mark, Executable, Target, TableLine, Bool, Err, IfSome, List, None, Ok, Option, Some, T, [], ap, arith, cond, false, inl, inr, is_none, is_some, length, map, not, option_map, refl, subst, sym, true, ℕ, ◌&&◌, ◌++◌, ◌+◌, ◌-◌, ◌<◌, ◌||◌, ◌∙◌, ◌∷◌, ◌≡◌, ◌≤◌, cases_Bool, false≢true, nat_tests, All-head, bytes_eq-Decides, entries, entries_sorted, find, from_entries, get, get-entries, get-from_entries, is_sorted, len-entries, put, same_map, is_sorted-put, same_entries, AllByRecursion, slice_index_or, IsStrictlySortedBy, keys_of, option_or, eq_by_cmp, bytes_eq, nat_le, nat_lt, MAX_BYTES, MAX_NODES, MAX_TABLE, MAX_FILE_BYTES}
+use Rattle.fx_folder.proofs.Prelude.{none_if_never, HasFolderOf, Held, all_below, all_bytes, as_nodes, deep_loads, first_refused, is_table_place, lacking, last_name, lines_or_cause, linked, refused_entry, refused_kind, table_entry, table_in, table_lines, unless_refused, unlisted, walked, with_table, FoldersAreLoaded, IsWithinLimits, host_entry, sorted_test, strictly_sorted, parts_cmp, Entry, Tree, file, folder, HostKind, IsName, has, is_name, path_cmp, path_same, path_total, parent, IsNode, Nodes, Store, lists, Node, Dir, File, Link, sorted_flags, find_listed, found, has_below, names_ascend, relisted, AreFound, all_found, lines_are_tables, body_read, lacks_none, Mapped, listed, names_below, with_flags, with_lines, with_links, place_of, table_name, IsTable, TableLink, can_mark, is_dir, is_file, lines_of, links_among, over, read_body, table_text, but_no_link, unlinked, FolderCause, BadTable, TooLarge, Mark, Executable, Target, TableLine, Bool, Err, IfSome, List, None, Ok, Option, Some, T, [], ap, arith, cond, false, inl, inr, is_none, is_some, length, map, not, option_map, refl, subst, sym, true, ℕ, ◌&&◌, ◌++◌, ◌+◌, ◌-◌, ◌<◌, ◌||◌, ◌∙◌, ◌∷◌, ◌≡◌, ◌≤◌, cases_Bool, false≢true, nat_tests, All-head, bytes_eq-Decides, entries, entries_sorted, find, from_entries, get, get-entries, get-from_entries, is_sorted, len-entries, put, same_map, is_sorted-put, same_entries, AllByRecursion, slice_index_or, IsStrictlySortedBy, keys_of, option_or, eq_by_cmp, bytes_eq, nat_le, nat_lt, MAX_BYTES, MAX_NODES, MAX_TABLE, MAX_FILE_BYTES, link_bytes}
 use Rattle.std.proofs.lemmas.Bool.{or_from}
 use Rattle.fx_outside.specs.declared.kind.HostKind.TheVariants as kind
 use Rattle.fx_store.specs.Names.{name_cmp}
@@ -7,7 +7,7 @@ use Rattle.fx_store.specs.Orders.{name_total, name_same}
 use Rattle.fx_store.specs.Whole.{IsWhole}
 use Rattle.fx_folder.proofs.Walked.{below_sorted, below_root, find_walked_below}
 use Rattle.fx_folder.proofs.Loaded.{IsAccepted, node_of, find_unlisted, unlisted_sorted}
-use Rattle.fx_folder.proofs.Counted.{HasRoot, has_root, held_of, texts_of, more_bytes, counted, summed}
+use Rattle.fx_folder.proofs.Counted.{HasRoot, has_root, held_of, more_bytes, counted, summed}
 use Rattle.fx_folder.proofs.Items.{reserved}
 use Rattle.fx_folder.proofs.Entries.{same_held}
 use Rattle.fx_folder.proofs.Branches.{find_below}
@@ -73,7 +73,7 @@ same_names ms ns up up' same =
 
 -- ---- a table is read
 
-reads : (nodes left : ℕ) (S : Store) (lines : List TableLine) → IsTable S lines → length (table_text lines) ≤ MAX_TABLE → nodes + length (links_among lines) ≤ MAX_NODES → texts_of (links_among lines) ≤ left → table_lines nodes left S (table_entry lines) ≡ Ok lines
+reads : (nodes left : ℕ) (S : Store) (lines : List TableLine) → IsTable S lines → length (table_text lines) ≤ MAX_TABLE → nodes + length (links_among lines) ≤ MAX_NODES → link_bytes (links_among lines) ≤ left → table_lines nodes left S (table_entry lines) ≡ Ok lines
 reads nodes left S [] table small few fits = refl
 reads nodes left S (l ∷ ls) table small few fits =
     let lines = l ∷ ls in
@@ -81,7 +81,7 @@ reads nodes left S (l ∷ ls) table small few fits =
     let text = table_text lines in
     let fit : nat_lt MAX_TABLE (length text) ≡ false = grind (arith, nat_tests) in
     let room : nat_lt MAX_NODES (nodes + length links) ≡ false = grind (arith, nat_tests) in
-    let bytes : nat_lt left (texts_of links) ≡ false = grind (arith, nat_tests) in
+    let bytes : nat_lt left (link_bytes links) ≡ false = grind (arith, nat_tests) in
     ap (λ b. cond b (Err (TooLarge (place_of (table_name ∷ [])))) (lines_or_cause nodes left S text (read_body S text))) fit
     ∙ ap (lines_or_cause nodes left S text) (body_read S lines table)
     ∙ ap (λ b. cond b (Err (TooLarge (place_of (table_name ∷ [])))) (unless_refused (lacking text lines) (Ok lines))) (or_from _ _ room bytes)
@@ -242,7 +242,7 @@ module _ (tree : Tree) (P : Paths) (nodes : Nodes) (whole : IsWhole (get nodes))
       let all = counted (entries nodes) whole.root.0 root.rest root.is (entries_sorted nodes) in
       omega (arith, len-entries nodes)
 
-  bytes : all_bytes (held_of (entries nodes)) + texts_of links ≤ MAX_BYTES
+  bytes : all_bytes (held_of (entries nodes)) + link_bytes links ≤ MAX_BYTES
   bytes = let within = limits.bytes in let all = summed (entries nodes) whole.root.0 root.rest root.is (entries_sorted nodes) in omega arith
 
   none_refused : first_refused 1 MAX_BYTES hs ≡ None

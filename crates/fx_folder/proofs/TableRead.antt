@@ -1,10 +1,10 @@
 -- The table that was read: its lines, and that they are not too many.
-use Rattle.fx_folder.proofs.Prelude.{are_too_many, unless_refused, lacking, lines_or_cause, table_file_lines, table_lines, Entry, file, HostKind, Store, texts_are_lines, IsLine, IsTable, body_of, first_number, has_place, lacks_flags, lines_before, links_among, over, read_body, setting_of, table_text, FolderCause, BadTable, TableLine, Bool, Err, IsTrue, List, None, Ok, Option, Result, Some, [], ap, arith, cond, false, inl, inr, length, refl, subst, true, ℕ, ◌+◌, ◌≡◌, ◌≤◌, ◌⊎◌, or_parts, All-nil, nat_lt, MAX_NODES, MAX_TABLE}
+use Rattle.fx_folder.proofs.Prelude.{are_too_many, unless_refused, lacking, lines_or_cause, table_file_lines, table_lines, Entry, file, HostKind, Store, texts_are_lines, IsLine, IsTable, body_of, first_number, has_place, lacks_flags, lines_before, links_among, over, read_body, setting_of, table_text, FolderCause, BadTable, TableLine, Bool, Err, IsTrue, List, None, Ok, Option, Result, Some, [], ap, arith, cond, false, inl, inr, length, refl, subst, true, ℕ, ◌+◌, ◌≡◌, ◌≤◌, ◌⊎◌, or_parts, All-nil, nat_lt, MAX_NODES, MAX_TABLE, link_bytes}
 use Rattle.std.specs.List.Sorted.{IsStrictlySortedBy}
 use Rattle.fx_outside.specs.declared.kind.HostKind.TheVariants as kind
 use Rattle.fx_table.specs.TableLaws.{SpellsTable}
 use Rattle.fx_table.proofs.Versions.{spells}
-use Rattle.fx_folder.proofs.Counted.{texts_of, at_most}
+use Rattle.fx_folder.proofs.Counted.{at_most}
 
 -- no table stands there, or a file that spells the lines
 abbrev pub Spelled : List TableLine → Option Entry → Type 0
@@ -15,7 +15,7 @@ pub record IsTableOf (nodes left : ℕ) (S : Store) (lines : List TableLine) (o 
   pub table : IsTable S lines
   pub is : Spelled lines o
   pub few : nodes + length (links_among lines) ≤ MAX_NODES
-  pub fit : texts_of (links_among lines) ≤ left
+  pub fit : link_bytes (links_among lines) ≤ left
   pub short : length (table_text lines) ≤ MAX_TABLE
 
 not_lacking : (b : Bool) → cond b (Some (BadTable 1)) None ≡ None → b ≡ false
@@ -50,7 +50,7 @@ of_file : (nodes left : ℕ) (S : Store) (k : HostKind) (text : List ℕ) (lines
 of_file nodes left S kind.File text lines e =
     let small = not_large (nat_lt MAX_TABLE (length text)) _ (lines_or_cause nodes left S text (read_body S text)) lines e in
     let read = is_read nodes left S text (read_body S text) lines refl small.1 in
-    let within = or_parts (nat_lt MAX_NODES (nodes + length (links_among lines))) (nat_lt left (texts_of (links_among lines))) read.many in
+    let within = or_parts (nat_lt MAX_NODES (nodes + length (links_among lines))) (nat_lt left (link_bytes (links_among lines))) read.many in
     record {
       table = read.spells.table;
       is = inr (ap (λ t. Some (file t)) read.spells.spelled);

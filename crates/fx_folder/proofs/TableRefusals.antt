@@ -1,14 +1,11 @@
 -- The table is refused for the first cause of its lines.
-use Rattle.fx_folder.proofs.Prelude.{Held, unless_refused, all_bytes, lacking, limited, lines_or_cause, table_file_lines, table_lines, HasBadLine, HasTooManyLinks, IsFileCause, IsLineCause, exceed_limits, Entry, HostKind, Store, body_said, before_bad, before_end, lines_before_are, stops_read, SpellsLines, bad_line_is_first, texts_are_lines, lacks_in, stops_in, place_of, table_name, Setting, TableLink, body_of, first_number, lacks_flags, lines_before, lines_text, link_in_line, links_among, read_body, setting_of, IsFirstBadOf, FolderCause, BadTable, TooLarge, TableLine, Bool, Err, List, None, Ok, Option, Result, Some, [], ap, append-nil, arith, cond, false, inl, inr, length, length-append, refl, sum_by, sym, true, ℕ, ◌++◌, ◌+◌, ◌-◌, ◌||◌, ◌∙◌, ◌∷◌, ◌≡◌, ◌≤◌, nat_tests, filter_map-append, sum_by-append, nat_lt, MAX_BYTES, MAX_NODES, MAX_TABLE}
+use Rattle.fx_folder.proofs.Prelude.{Held, unless_refused, all_bytes, lacking, limited, lines_or_cause, table_file_lines, table_lines, HasBadLine, HasTooManyLinks, IsFileCause, IsLineCause, exceed_limits, Entry, HostKind, Store, body_said, before_bad, before_end, lines_before_are, stops_read, SpellsLines, bad_line_is_first, texts_are_lines, lacks_in, stops_in, place_of, table_name, Setting, TableLink, body_of, first_number, lacks_flags, lines_before, lines_text, link_in_line, links_among, read_body, setting_of, IsFirstBadOf, FolderCause, BadTable, TooLarge, TableLine, Bool, Err, List, None, Ok, Option, Result, Some, [], ap, append-nil, arith, cond, false, inl, inr, length, length-append, refl, sym, true, ℕ, ◌++◌, ◌+◌, ◌-◌, ◌||◌, ◌∙◌, ◌∷◌, ◌≡◌, ◌≤◌, nat_tests, filter_map-append, sum_by-append, nat_lt, MAX_BYTES, MAX_NODES, MAX_TABLE, link_bytes}
 use Rattle.fx_outside.specs.declared.kind.HostKind.TheVariants as kind
 use Rattle.fx_folder.specs.Deep as deep
 use Rattle.fx_folder.proofs.Counted.{at_most, not_above, below, is_below}
 
 abbrev too_large : FolderCause
 too_large = TooLarge (place_of (table_name ∷ []))
-
-texts : List TableLink → ℕ
-texts links = sum_by (λ (l : TableLink). length l.text) links
 
 -- more links are too many too
 more_too_many : (n b m k a c x y : ℕ) → a ≤ x → c ≤ y → (nat_lt m (n + a) || nat_lt k (b + c)) ≡ true → (nat_lt m (n + x) || nat_lt k (b + y)) ≡ true
@@ -19,9 +16,8 @@ over most b n le = grind (arith, nat_tests)
 
 module _ (all : List Held) where
   longer_too_many : (links more : List TableLink) → exceed_limits all links ≡ true → exceed_limits all (links ++ more) ≡ true
-  unfolding texts
   longer_too_many links more many =
-      more_too_many (length all + 1) (all_bytes all) MAX_NODES MAX_BYTES (length links) (texts links) (length (links ++ more)) (texts (links ++ more))
+      more_too_many (length all + 1) (all_bytes all) MAX_NODES MAX_BYTES (length links) (link_bytes links) (length (links ++ more)) (link_bytes (links ++ more))
       (omega (arith, length-append links more)) (omega (arith, sum_by-append (λ (l : TableLink). length l.text) links more)) many
 
   abbrev nodes : ℕ
@@ -31,8 +27,7 @@ module _ (all : List Held) where
   left = MAX_BYTES - all_bytes all
 
   pub same_many : all_bytes all ≤ MAX_BYTES → (links : List TableLink) → deep.are_too_many nodes left links ≡ exceed_limits all links
-  unfolding texts
-  same_many fits links = ap (λ b. nat_lt MAX_NODES (nodes + length links) || b) (over MAX_BYTES (all_bytes all) (texts links) fits)
+  same_many fits links = ap (λ b. nat_lt MAX_NODES (nodes + length links) || b) (over MAX_BYTES (all_bytes all) (link_bytes links) fits)
 
   -- lines with more behind them have too many links too
   longer_lines : (lines more : List TableLine) → exceed_limits all (links_among lines) ≡ true → exceed_limits all (links_among (lines ++ more)) ≡ true

@@ -1,8 +1,8 @@
 -- What a folder is loaded as is within the limits.
-use Rattle.fx_folder.proofs.Prelude.{Held, all_below, all_bytes, deep_loads, walked, IsWithinLimits, Tree, folder, Nodes, Dir, lines_of, links_among, table_text, List, Ok, Some, [], ap, arith, length, subst, sym, ℕ, ◌+◌, ◌-◌, ◌∙◌, ◌≡◌, ◌≤◌, entries, entries_sorted, get, get-entries, len-entries, MAX_BYTES, MAX_NODES, MAX_TABLE}
+use Rattle.fx_folder.proofs.Prelude.{Held, all_below, all_bytes, deep_loads, walked, IsWithinLimits, Tree, folder, Nodes, Dir, lines_of, links_among, table_text, List, Ok, Some, [], ap, arith, length, subst, sym, ℕ, ◌+◌, ◌-◌, ◌∙◌, ◌≡◌, ◌≤◌, entries, entries_sorted, get, get-entries, len-entries, MAX_BYTES, MAX_NODES, MAX_TABLE, link_bytes}
 use Rattle.fx_outside.specs.Tree as host
 use Rattle.fx_store.specs.Whole.{IsWhole}
-use Rattle.fx_folder.proofs.Counted.{has_root, counted, summed, held_of, texts_of}
+use Rattle.fx_folder.proofs.Counted.{has_root, counted, summed, held_of}
 use Rattle.fx_folder.proofs.Entries.{same_held}
 use Rattle.fx_folder.proofs.Walked.{find_walked_below}
 use Rattle.fx_folder.proofs.Standing.{room, has_table, lines_are, entry_walked}
@@ -28,10 +28,10 @@ module _ (tree : Tree) (whole : host.IsWhole tree) (P : Paths) (nodes : Nodes) (
       let n : length hs ≡ length (held_of (entries nodes)) = held_same.0 in
       omega arith
 
-  few_bytes : all_bytes (held_of (entries nodes)) + texts_of (links_among (lines_of nodes)) ≤ MAX_BYTES
+  few_bytes : all_bytes (held_of (entries nodes)) + link_bytes (links_among (lines_of nodes)) ≤ MAX_BYTES
   few_bytes =
       let table = has_table tree whole P nodes there loads in
-      let fit = subst (λ l. texts_of (links_among l) ≤ MAX_BYTES - all_bytes hs) (sym (lines_are tree whole P nodes there loads)) table.fit in
+      let fit = subst (λ l. link_bytes (links_among l) ≤ MAX_BYTES - all_bytes hs) (sym (lines_are tree whole P nodes there loads)) table.fit in
       let all = (room tree whole P nodes there loads).fit in
       let n : all_bytes hs ≡ all_bytes (held_of (entries nodes)) = held_same.1 in
       omega arith

@@ -12,13 +12,13 @@ use Rattle.fx_outside.specs.Tree.{Tree, Entry, file}
 use Rattle.fx_store.specs.declared.limits.TheConstants.{MAX_PATH_NAMES, MAX_FILE_BYTES}
 use Rattle.fx_store.specs.declared.node.Node.{Node}
 use Rattle.fx_store.specs.declared.node.Node.TheVariants.{File, Dir}
-use Rattle.fx_store.specs.Names.{is_name, path_cmp}
+use Rattle.fx_store.specs.Names.{is_name, path_cmp, rest_of}
 use Rattle.fx_store.specs.Whole.{Store, Nodes}
 use Rattle.fx_table.specs.declared.fault.FolderCause.{FolderCause}
 use Rattle.fx_table.specs.declared.fault.FolderCause.TheVariants.{BadName, Strange, TooLarge, BadTable}
 use Rattle.fx_folder.specs.declared.limits.TheConstants.{MAX_BYTES, MAX_NODES, MAX_TABLE}
 use Rattle.fx_table.specs.Listed.{Mapped, with_lines, listed}
-use Rattle.fx_table.specs.Places.{table_name, place_of, rest_of}
+use Rattle.fx_table.specs.Places.{table_name, place_of}
 use Rattle.fx_folder.specs.Places.{host_entry}
 use Rattle.fx_table.specs.declared.line.TableLine.{TableLine}
 use Rattle.fx_table.specs.Table.{TableLink, table_text, lines_of, links_among, read_body, lacks_flags, lines_before}

@@ -12,7 +12,7 @@ use Rattle.fx_outside.specs.Host.{HostView, FaultIn, HasFailed}
 use Rattle.fx_outside.specs.Path.{Parts, parts, parts_cmp, is_fit, above}
 use Rattle.fx_outside.specs.Tree.{Tree, Entry, file, entry_at, is_folder_at, has_folder}
 pub use Rattle.fx_folder.specs.Places.{host_entry}
-use Rattle.fx_table.specs.Places.{rest_of}
+use Rattle.fx_store.specs.Names.{rest_of}
 use Rattle.fx_folder.specs.Deep.{folder_entry, is_table_place}
 
 abbrev pub entry_or : Option Entry → Nodes → Option Parts → Option Entry

@@ -12,10 +12,10 @@ use Rattle.fx_store.specs.declared.node.Node.{Node}
 use Rattle.fx_store.specs.declared.node.Node.TheVariants.{File, Dir, Link}
 use Rattle.fx_store.specs.declared.changes.Change.{Change}
 use Rattle.fx_store.specs.Names.{path_cmp, IsPath, IsContent}
+use Rattle.fx_store.specs.Kinds.{is_dir}
 use Rattle.fx_folder.specs.declared.walking.Item.{Item}
 use Rattle.fx_table.specs.Listed.{Mapped}
 use Rattle.fx_table.specs.Mapped.{mapped_of}
-use Rattle.fx_table.specs.Table.{is_dir}
 use Rattle.fx_folder.specs.Walks.{item_path, items_of, IsOnWay}
 
 -- a file within its limit, or a directory that lists no names yet

@@ -2,7 +2,7 @@
 use Rattle.std.specs.Prelude.{◌≡◌, ◌⊎◌, ◌≤◌, ℕ, true, List, [], ◌∷◌, ◌++◌, IsSome, Option, Some, None, Result, Err, OnOk, OnErr}
 use Rattle.std.specs.FinMap.{get, insert, find, entries}
 use Rattle.fx_store.specs.declared.node.Node.{Node}
-use Rattle.fx_store.specs.Names.{path_cmp}
+use Rattle.fx_store.specs.Names.{path_cmp, rest_of}
 use Rattle.fx_store.specs.Whole.{Nodes}
 use Rattle.fx_outside.specs.declared.kind.HostFault.{HostFault}
 use Rattle.fx_outside.specs.declared.kind.HostFault.TheVariants.{Failed}
@@ -10,7 +10,6 @@ use Rattle.fx_outside.specs.Host.{HostView, WritesAt, WritesIn, FaultAt, FaultIn
 use Rattle.fx_outside.specs.Path.{Parts, parts, is_fit}
 use Rattle.fx_outside.specs.Tree.{Tree, Entry, file, folder}
 use Rattle.fx_folder.specs.Places.{host_entry}
-use Rattle.fx_table.specs.Places.{rest_of}
 use Rattle.fx_folder.specs.Folder.{Out, Absent, Empty, IfTold, IsFrontOf}
 
 -- the tree with the folder itself, which is made where it is not there

@@ -1,5 +1,5 @@
 -- What stands in the filestore of a number stands there in order, and makes a whole one.
-use Rattle.std.proofs.Common.{◌≡◌, ℕ, zero, suc, ◌+◌, ◌*◌, ◌/◌, ◌%◌, ◌<◌, ◌≤◌, Bool, true, false, ◌&&◌, List, [], ◌∷◌, ◌++◌, map, length, All, Ok, refl, sym, ap, ◌∙◌, append_assoc, arith, codes}
+use Rattle.std.proofs.Common.{◌≡◌, ℕ, zero, suc, ◌+◌, ◌*◌, ◌/◌, ◌%◌, ◌<◌, Bool, true, false, ◌&&◌, List, [], ◌∷◌, ◌++◌, map, length, All, Ok, refl, sym, ap, ◌∙◌, append_assoc, arith, codes}
 use Rattle.std.specs.Prelude.{nat_le, nat_lt, not, cond, Err}
 use Rattle.fx_store.specs.declared.name.PathFault.TheVariants.{BadName, TooDeep}
 use Rattle.fx_store.specs.declared.changes.Change.{Change}

@@ -10,7 +10,7 @@ use Rattle.fx_spec.proofs.Orders.{legal_none}
 use Rattle.fx_machine.specs.declared.event.Event.{Event}
 use Rattle.fx_machine.specs.declared.event.Event.TheVariants as event
 use Rattle.fx_machine.specs.declared.retry.Retry.{Retry}
-use Rattle.fx_machine.specs.Machine.{Machine, Step, Run, resting}
+use Rattle.fx_machine.specs.Machine.{Machine, Step, resting}
 use Rattle.fx_machine.specs.Turns.{BeginsTurns}
 use Rattle.fx_board.specs.Log.{Log}
 use Rattle.fx_durable.specs.Disk.{File, DiskView}
@@ -93,9 +93,6 @@ module _ (base : BaseTree) (schedule : List ℕ) (disk disk' : DiskView) (sink s
 
   -- a run of which an event is refused
   module _ (stop : RecordFault) (events : List Event) (e : Event) (running : Running) (refused : HasRefused began stop events e running disk' sink') (begins : BeginsTurns base [] schedule (events ++ e ∷ [])) (named : NameConflicts base (resting base []) (events ++ e ∷ [])) where
-    part : List ℕ
-    part = take refused.count (event_line e)
-
     -- no more than a part of its line is written
     cut : ((stop ≡ fault.DiskFailed → ⊥) → disk'.faults ≡ disk.faults) → IfFile (LeavesEither base refused.before.order running.machine.order) disk.told disk'.told → (behind : (take refused.count (event_line e) ≡ []) ⊎ IsPartOfLine base schedule events refused.before (take refused.count (event_line e))) → (stop ≡ fault.DiskFailed → IsBeforeSettled base schedule events refused.before (take refused.count (event_line e))) → HasBrokenOff base schedule disk disk' sink sink' stop
     cut calm leaves behind at_disk = record {

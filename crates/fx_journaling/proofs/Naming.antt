@@ -13,7 +13,7 @@ use Rattle.fx_store.specs.Orders.{path_total, path_eq_same}
 use Rattle.fx_spec.specs.Plans.{Turn}
 use Rattle.fx_spec.specs.Order.{BaseTree, Changes}
 use Rattle.fx_machine.specs.declared.event.Event.{Event}
-use Rattle.fx_machine.specs.Machine.{Machine, Look, Run, position_at, IsStaleAt}
+use Rattle.fx_machine.specs.Machine.{Machine, Look, position_at, IsStaleAt}
 use Rattle.fx_machine.specs.Measure.{changes_at}
 use Rattle.fx_machine.proofs.Stale.{changes_found, found_changes}
 use Rattle.fx_board.proofs.Indexes.{changes_within}

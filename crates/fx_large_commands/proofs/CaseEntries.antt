@@ -9,7 +9,7 @@ use Rattle.std.specs.Option.{option_or}
 use Rattle.fx_base.proofs.Orders.{then_greater, then_equal_ties}
 use Rattle.fx_base.proofs.Names.{name_itself, name_is}
 use Rattle.fx_store.specs.declared.node.Node.{Node}
-use Rattle.fx_store.specs.Names.{path_cmp}
+use Rattle.fx_store.specs.Names.{path_cmp, rest_of}
 use Rattle.fx_store.proofs.PathLists.{rest_is}
 use Rattle.fx_outside.specs.Listing.{name_cmp}
 use Rattle.fx_outside.specs.Path.{Parts, parts_cmp}
@@ -17,7 +17,6 @@ use Rattle.fx_outside.specs.Tree.{Tree, Entry, file}
 use Rattle.fx_folder.specs.Deep.{folder_entry}
 use Rattle.fx_folder.specs.Folder.{IsSaved, IsPartlySaved, IsFrontOf, entry_or}
 use Rattle.fx_folder.specs.Places.{host_entry}
-use Rattle.fx_table.specs.Places.{rest_of}
 use Rattle.fx_folder.specs.Written.{HasEntries}
 use Rattle.fx_folder.proofs.Fronts.{some_of}
 use Rattle.fx_table.proofs.Descents.{find_append}

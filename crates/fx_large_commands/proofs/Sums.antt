@@ -1,14 +1,11 @@
 -- One more element in a count, and one more project in a sum.
 use Rattle.std.proofs.Common.{◌≡◌, ℕ, suc, ◌+◌, Bool, cond, List, ◌∷◌, [], take, Some, ◌+ℤ◌, pos, refl, sym, ap, ◌∙◌, arith, codes}
-use Rattle.std.specs.Str.{is_utf8, chars}
 use Rattle.std.specs.List.{slice_get, count_by}
 use Rattle.std.specs.FinMap.{get}
 use Rattle.std.proofs.lemmas.List.Sums.{sum_by_push}
-use Rattle.fx_store.specs.Names.{IsName, is_name}
 use Rattle.fx_store.specs.Whole.{Nodes}
 use Rattle.fx_gen.specs.Notes.{project}
 use mir.Val.{bool_byte}
-use lib.Utf8.{encode}
 use Rattle.fx_base.proofs.Booleans.{byte_is}
 use Rattle.fx_base.proofs.Lists.{take_next}
 use Rattle.fx_large_commands.specs.Summary.{counted_at, logged_at, counted_to, logged_to}
@@ -36,11 +33,3 @@ logged_none nodes = refl
 pub logged_more : (nodes : Nodes) (n : ℕ) → logged_to nodes (n + 1) ≡ logged_to nodes n + logged_at (get nodes (project n ∷ codes "log" ∷ []))
 unfolding logged_to
 logged_more nodes n = let next : n + 1 ≡ suc n = omega arith in ap (logged_to nodes) next
-
-pub count_named : IsName (codes "count")
-unfolding is_utf8 chars encode is_name
-count_named = refl
-
-pub log_named : IsName (codes "log")
-unfolding is_utf8 chars encode is_name
-log_named = refl

@@ -9,7 +9,7 @@ use Rattle.fx_outside.specs.Path.{Parts, parts_cmp}
 use Rattle.fx_outside.specs.Tree.{Tree, Entry, file, folder}
 use Rattle.fx_folder.specs.Deep.{folder_entry}
 use Rattle.fx_folder.specs.Folder.{IsFrontOf, is_written_before}
-use Rattle.fx_table.specs.Places.{rest_of}
+use Rattle.fx_store.specs.Names.{rest_of}
 use Rattle.fx_gen.specs.Notes.{nodes}
 use Rattle.fx_gen.specs.Scripts.{description, generated_scripts}
 use Rattle.fx_gen.specs.declared.case.Generated.{Generated}

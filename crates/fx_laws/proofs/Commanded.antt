@@ -14,8 +14,8 @@ use Rattle.fx_parse.specs.declared.keyword.Keyword.TheVariants as keyword
 use Rattle.fx_parse.specs.Keywords.{word}
 use Rattle.fx_parse.specs.Grammars.{closing, expr_tokens, shape_tokens, is_name, has_names}
 use Rattle.fx_spec.specs.CommandTree.{ActTree, CommandTree, Block, block}
-use Rattle.fx_grammar.specs.Tokens.{Tokens, bracketed, braced, act_tokens, command_tokens, block_tokens, txn_tokens, script_tokens, act_names, command_names, block_names}
-use Rattle.fx_laws.specs.TokenLaws.{HasOneReading, BlocksHaveOneReading, txn_names, ScriptsDiffer}
+use Rattle.fx_grammar.specs.Tokens.{Tokens, bracketed, braced, act_tokens, command_tokens, block_tokens, txn_tokens, script_tokens, act_names, command_names, block_names, txn_names}
+use Rattle.fx_laws.specs.TokenLaws.{HasOneReading, BlocksHaveOneReading, ScriptsDiffer}
 use Rattle.fx_laws.proofs.Parts.{expr_reading, shape_reading}
 use Rattle.fx_laws.proofs.Tokened.{tail_of, word_of, behind_two, behind_three, first, number, number_word, same_number}
 

@@ -7,14 +7,14 @@ use Rattle.std.specs.declared.cmp.Ordering.{Ordering}
 use Rattle.std.specs.declared.cmp.Ordering.TheVariants.{Less, Equal, Greater}
 use Rattle.std.specs.Ordering.{eq_by_cmp, match_ordering}
 use Rattle.fx_base.proofs.Names.{name_itself, path_itself}
+use Rattle.fx_base.specs.Sets.{without_name}
 use Rattle.fx_store.specs.declared.node.Node.{Node}
 use Rattle.fx_store.specs.declared.node.Node.TheVariants.{Dir}
 use Rattle.fx_store.specs.declared.node.Landing.TheVariants.{At}
 use Rattle.fx_store.specs.declared.changes.Change.{Change}
 use Rattle.fx_store.specs.Landings.{IsDir, IsTrueOf}
-use Rattle.fx_store.specs.Names.{name_cmp, path_cmp, has}
+use Rattle.fx_store.specs.Names.{name_cmp, path_cmp, has, rest_of}
 use Rattle.fx_store.specs.Orders.{path_eq_same}
-use Rattle.fx_store.specs.Relisted.{rest_of}
 use Rattle.fx_store.specs.Resolve.{◌/ₚ◌, parent, resolve, lands}
 use Rattle.fx_store.specs.Rule.{answer, Answer, ◌>>=◌}
 use Rattle.fx_store.specs.Whole.{Store, IsWhole, lists, over}
@@ -23,7 +23,7 @@ use Rattle.fx_store.proofs.Landings.{landings_are_true}
 use Rattle.fx_store.proofs.PathLists.{rest_append, rest_is}
 use Rattle.fx_expr.specs.Sets.{with_text}
 use Rattle.fx_spec.specs.declared.refusal.Refusal.{Refusal}
-use Rattle.fx_spec.specs.Edit.{set_to, names_of, clear, bare_node, create_landed, create_at, last_name, without_name, remove_entry, remove_landed, remove_at}
+use Rattle.fx_spec.specs.Edit.{set_to, names_of, clear, bare_node, create_landed, create_at, last_name, remove_entry, remove_landed, remove_at}
 use Rattle.fx_spec.specs.Move.{unrefused, needed}
 use Rattle.fx_spec.proofs.EditLaws.{edits_keep_whole}
 use Rattle.fx_spec.proofs.EditsWhole.{nothing_below}

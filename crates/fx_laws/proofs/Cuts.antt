@@ -5,10 +5,9 @@ use Rattle.std.specs.List.{flat_map}
 use Rattle.std.proofs.lemmas.Bool.Decides.{nat_tests}
 use Rattle.std.proofs.lemmas.List.{append_cancel_left}
 use Rattle.fx_expr.specs.Tree.{Tree}
-use Rattle.fx_store.specs.Names.{path_text}
 use Rattle.fx_spec.specs.Plans.{Turn}
 use Rattle.fx_machine.specs.declared.retry.Retry.{Retry}
-use Rattle.fx_report.specs.Print.{quote, value_text}
+use Rattle.fx_report.specs.Print.{value_text}
 use Rattle.fx_report.specs.Report.{end_text, entries_text, entry_line, entry_text, entry_words, field, print_line, report_text, retry_line, retry_words}
 use Rattle.fx_report.specs.Readable.{AreRetries, IsHeldReport, IsHeldRetry}
 use Rattle.fx_report.specs.declared.printed.PrintedEntry.{PrintedEntry}

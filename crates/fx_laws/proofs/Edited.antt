@@ -4,6 +4,7 @@ use Rattle.std.proofs.lemmas.List.{append-nil}
 use Rattle.std.specs.Ordering.{eq_by_cmp}
 use Rattle.fx_base.proofs.Results.{same_Ok}
 use Rattle.fx_base.proofs.Names.{name_is}
+use Rattle.fx_base.specs.Sets.{without_name}
 use Rattle.fx_store.specs.declared.node.Node.{Node}
 use Rattle.fx_store.specs.declared.node.Node.TheVariants.{File, Dir, Link}
 use Rattle.fx_store.specs.declared.node.Landing.{Landing}
@@ -11,8 +12,8 @@ use Rattle.fx_store.specs.declared.node.Landing.TheVariants.{At, Absent, Blocked
 use Rattle.fx_store.specs.declared.changes.Change.{Change}
 use Rattle.fx_store.specs.Changes.{changed_paths}
 use Rattle.fx_store.specs.Landings.{IsTrueOf}
-use Rattle.fx_store.specs.Names.{name_cmp, IsNameSet}
-use Rattle.fx_store.specs.Relisted.{rest_of, relist_at, relisted}
+use Rattle.fx_store.specs.Names.{name_cmp, IsNameSet, rest_of}
+use Rattle.fx_store.specs.Relisted.{relist_at, relisted}
 use Rattle.fx_store.specs.Resolve.{◌/ₚ◌, parent, resolve, lands}
 use Rattle.fx_store.specs.Rule.{Ask, answer, look_all, ◌>>=◌}
 use Rattle.fx_store.specs.Whole.{Store, IsWhole, update, over}
@@ -20,7 +21,7 @@ use Rattle.fx_store.proofs.Asks.{answer-bind}
 use Rattle.fx_store.proofs.Landings.{landings_are_true}
 use Rattle.fx_store.proofs.PathLists.{rest_append, rest_is}
 use Rattle.fx_expr.specs.Sets.{with_text}
-use Rattle.fx_spec.specs.Edit.{set_to, names_of, children, made, make, is_too_deep, create_landed, last_name, without_name, lacks_room, unless_deep, new_names, replaced, store_landed, follows_last, remove_landed, is_flag}
+use Rattle.fx_spec.specs.Edit.{set_to, names_of, children, made, make, is_too_deep, create_landed, last_name, lacks_room, unless_deep, new_names, replaced, store_landed, follows_last, remove_landed, is_flag}
 use Rattle.fx_spec.specs.declared.refusal.Refusal.{Refusal}
 use Rattle.fx_spec.specs.Move.{Answered, unrefused, needed}
 use Rattle.fx_spec.proofs.EditLaws.{stored_node_ok, unless-ok, has_room}

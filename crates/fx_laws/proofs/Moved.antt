@@ -124,9 +124,6 @@ down_steps S a p env (SpecTree.focus x s) b e = by (focus_path p (eval_of env x)
 -- ---- from an address
 
 module _ (S : Store) (root : SpecTree) (a : Address) where
-  abbrev Move : Type 0
-  Move = Address → List (List ℕ) → Bindings → SpecTree → Ask (Answered Address)
-
   pub placed_move : {P : Type 0} (next : PlaceTree → Ask (Answered Address)) (b : Address) → ((at : PlaceTree) → answer S (place root a) ≡ Some at → answer S (next at) ≡ Ok b → P) → answer S (at_place root a next) ≡ Ok b → P
   placed_move {P} next b on e = go (answer S (place root a)) refl (sym (answer-bind S (place root a) (λ at. unrefused next (needed Refusal.NoPlace at))) ∙ e)
     where

@@ -25,8 +25,6 @@ use Rattle.fx_spec.proofs.Scoped.{bind_has, set_has, cut_has}
 use Rattle.fx_laws.proofs.Stored.{result-asking, result-then}
 use Rattle.fx_laws.specs.Scoped.{IfOn, Opens, CommandsKeepShapes, BlocksKeepShapes}
 
--- ---- values that are bound, and bound again
-
 -- ---- what follows
 
 opens_same : (scope : Scope) (rest : Block) (s : Standing) → BindingsHave s.vars scope → IsBlock scope rest → Opens scope rest s
@@ -46,11 +44,6 @@ opens_bound scope rest s x v shape b has h = record {
 weaker : (P Q : Standing → Type 0) (f : Flow) → ((s : Standing) → P s → Q s) → IfOn P f → IfOn Q f
 weaker P Q (On s) to h = to s h
 weaker P Q (Over end outputs) to h = tt
-
--- the answer of a rule has a shape
-given : (x : Answered Tree) (v : Tree) (shape : ShapeTree) → x ≡ Ok v → IfOk x (λ v. ValueHas v shape) → ValueHas v shape
-given (Ok w) v shape e h = let same : w ≡ v = cc in subst (λ v. ValueHas v shape) same h
-given (Err f) v shape e h = cc
 
 evaluated_has : (o : Outcome) (shape : ShapeTree) → IfOk o (λ v. ValueHas v shape) → IfOk (evaluated o) (λ v. ValueHas v shape)
 evaluated_has (Ok v) shape h = h

@@ -10,8 +10,9 @@ use Rattle.fx_store.specs.Resolve.{lands, parent, ◌/ₚ◌}
 use Rattle.fx_store.specs.Rule.{answer}
 use Rattle.fx_store.specs.Whole.{Store, IsWhole, over}
 use Rattle.fx_expr.specs.Tree.{Tree}
-use Rattle.fx_spec.specs.Edit.{stored_node, follows_last, bare_node, last_name, without_name, store_at, create_at, remove_at}
+use Rattle.fx_spec.specs.Edit.{stored_node, follows_last, bare_node, last_name, store_at, create_at, remove_at}
 use Rattle.fx_spec.specs.Place.{PlaceTree}
+use Rattle.fx_base.specs.Sets.{without_name}
 
 -- the path is this one, or is below it
 abbrev pub IsWithin : List (List ℕ) → List (List ℕ) → Type 0

@@ -4,8 +4,8 @@ use Rattle.std.specs.List.{list_all}
 use Rattle.fx_lex.specs.declared.token.Token.TheVariants as token
 use Rattle.fx_lex.specs.declared.token.Mark.TheVariants as mark
 use Rattle.fx_spec.specs.Written.{TextTree}
-use Rattle.fx_spec.specs.CommandTree.{CommandTree, Block, block}
-use Rattle.fx_grammar.specs.Tokens.{Tokens, block_tokens, script_tokens, block_names}
+use Rattle.fx_spec.specs.CommandTree.{CommandTree, Block}
+use Rattle.fx_grammar.specs.Tokens.{Tokens, block_tokens, script_tokens, block_names, txn_names}
 use Rattle.fx_grammar.specs.Texts.{IsDescription, IsScript}
 
 module _ {Tree : Type 0} (tokens : Tree → Tokens) (is_right : Tree → Bool) where
@@ -18,10 +18,6 @@ abbrev pub BlocksHaveOneReading : Type 0
 BlocksHaveOneReading =
     (a b : Block) (x y : Tokens) → block_names a ≡ true → block_names b ≡ true
     → block_tokens a ++ token.Mark mark.RightBrace ∷ x ≡ block_tokens b ++ token.Mark mark.RightBrace ∷ y → (a ≡ b) × (x ≡ y)
-
--- no name of the transaction is a kept word
-abbrev pub txn_names : List CommandTree → Bool
-txn_names commands = block_names (block commands)
 
 -- different scripts have different tokens
 abbrev pub ScriptsDiffer : Type 0

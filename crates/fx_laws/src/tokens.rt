@@ -1,6 +1,6 @@
 //! Laws of tokens: different trees have different tokens, and so different texts.
-ghost use Rattle.fx_grammar.specs.Tokens.{text_tokens, spec_tokens, def_tokens, act_tokens, command_tokens, txn_tokens, text_names, spec_names, def_names, act_names, command_names};
-ghost use Rattle.fx_laws.specs.TokenLaws.{HasOneReading, BlocksHaveOneReading, ScriptsDiffer, TextsHaveOneDescription, TextsHaveOneScript, txn_names};
+ghost use Rattle.fx_grammar.specs.Tokens.{text_tokens, spec_tokens, def_tokens, act_tokens, command_tokens, txn_tokens, text_names, spec_names, def_names, act_names, command_names, txn_names};
+ghost use Rattle.fx_laws.specs.TokenLaws.{HasOneReading, BlocksHaveOneReading, ScriptsDiffer, TextsHaveOneDescription, TextsHaveOneScript};
 
 /// Tokens are read in one way: where no name is a kept word, those of one tree never begin those of another, however deep
 /// they are nested, and no two scripts have the same.

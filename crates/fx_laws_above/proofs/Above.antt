@@ -9,8 +9,8 @@ use Rattle.fx_store.specs.Whole as store
 use Rattle.fx_store.specs.Whole.{Nodes}
 use Rattle.fx_outside.specs.Path.{Parts, above, is_fit_part, has_no_slash}
 use Rattle.fx_outside.specs.Tree as host
-use Rattle.fx_outside.specs.Tree.{Tree, Entry, folder, is_folder_kind, is_file_kind, has_folder, is_placed}
-use Rattle.fx_table.specs.Places.{rest_of}
+use Rattle.fx_outside.specs.Tree.{Tree, Entry, folder, is_folder_kind, has_folder}
+use Rattle.fx_store.specs.Names.{rest_of}
 use Rattle.fx_store.proofs.PathLists.{rest_append, rest_is}
 use Rattle.fx_folder.specs.Folder.{entry_or, IsSaved}
 use Rattle.fx_folder.specs.Places.{host_entry}

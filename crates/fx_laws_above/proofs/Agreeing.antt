@@ -26,7 +26,6 @@ said_twice = record {
   order_of_paths = refl;
   path_above = refl;
   last_name = refl;
-  other_names = refl;
   shape = part_shape;
   lacking_flags = λ text lines. lacking lines (lacks_flags text lines);
 }

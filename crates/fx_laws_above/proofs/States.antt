@@ -275,9 +275,6 @@ module _ (number k j : ℕ) (done : List Turn) (nodes : Nodes) (s : Stands numbe
     apart : (r : Path) → (r ≡ log_path p → ⊥) → (r ≡ log_path p /ₚ t → ⊥) → get nodes'' r ≡ get nodes r
     apart r one two = at_log r ∙ update_away (update (get nodes) d) f r two ∙ update_away (get nodes) d r one
 
-    no_length : (n m : ℕ) → (n ≡ m → ⊥) → (a b : Path) → length a ≡ n → length b ≡ m → a ≡ b → ⊥
-    no_length n m differ a b x y e = differ (sym x ∙ ap length e ∙ y)
-
     three : (n : ℕ) → n < 3 → n ≡ 3 → ⊥
     three n l e = absurd (omega (arith, l, e))
 

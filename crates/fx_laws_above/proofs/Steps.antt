@@ -13,6 +13,7 @@ use Rattle.fx_store.specs.Names.{path_cmp, IsName, IsNameSet, IsContent, has}
 use Rattle.fx_store.specs.Resolve.{◌/ₚ◌, resolve}
 use Rattle.fx_store.specs.Rule.{answer, ◌>>=◌}
 use Rattle.fx_store.specs.Whole.{Store, update, over}
+use Rattle.fx_store.specs.Orders.{path_eq_same}
 use Rattle.fx_text.specs.declared.set.TheConstants.{UNION_LIMIT}
 use Rattle.fx_text.specs.Sets.{set_of, with_text, weight}
 use Rattle.fx_expr.specs.Eval.{eval_of}
@@ -29,7 +30,6 @@ use Rattle.fx_spec.specs.Place.{PlaceTree, place, placed}
 use Rattle.fx_spec.specs.Task.{result, after}
 use Rattle.fx_spec.specs.Transaction.{Standing, On, go_on, or_stop, taking, edits, effect, run, run_block, transaction, flow_end, is_done, end, left}
 use Rattle.fx_spec.proofs.EditsMake.{IsNameSet-with}
-use Rattle.fx_spec.proofs.Tasks.{eq_paths}
 use Rattle.fx_gen.specs.Notes.{project, part_names, config}
 use Rattle.fx_gen.specs.Scripts.{tag}
 use Rattle.fx_gen.specs.Trees.{description_tree, count_tree, log_tree}
@@ -46,7 +46,7 @@ set_same : (S : Store) (q : List (List ℕ)) (node : Node) → S q ≡ Some node
 set_same S q node there = fun_ext (λ p. at p (eq_by_cmp path_cmp p q) refl)
   where
     at : (p : List (List ℕ)) (b : Bool) → eq_by_cmp path_cmp p q ≡ b → cond b (Some node) (S p) ≡ S p
-    at p true e = sym there ∙ ap S (sym (eq_paths p q e))
+    at p true e = sym there ∙ ap S (sym (path_eq_same p q e))
     at p false e = refl
 
 -- ---- a block that stores, and ends

@@ -1,7 +1,6 @@
 -- Definitions that two crates say, since neither stands on the other: they say the same.
 use Rattle.std.specs.Prelude.{◌≡◌, ◌<◌, ℕ, ◌+◌, ◌-◌, true, cond, ◌&&◌, List, ◌++◌, length, nat_le, nat_lt, Option, Some, None, Result, Ok, Err}
 use Rattle.std.specs.List.{list_all}
-use Rattle.fx_base.specs.Sets as sets
 use Rattle.fx_outside.specs.Listing as listing
 use Rattle.fx_outside.specs.Path as outside
 use Rattle.fx_outside.specs.Path.{Parts}
@@ -32,7 +31,6 @@ pub record SaidTwice : Type 0 where
   pub order_of_paths : outside.parts_cmp ≡ names.path_cmp
   pub path_above : outside.above ≡ parent
   pub last_name : folder.last_name ≡ edit.last_name
-  pub other_names : sets.without_name ≡ edit.without_name
   pub shape : (defs : List DefTree) (n : ℕ) (s : WrittenTree) → value_shape (part_tree defs n s) ≡ written_shape s
   pub lacking_flags : (text : List ℕ) (lines : List TableLine) → folder.lacking text lines ≡ bad_line (unless_lacking text (Ok lines))
 

@@ -2,7 +2,7 @@
 ghost use Rattle.fx_laws_above.specs.Twice.{SaidTwice, NumeralsAreLimits};
 
 /// What two crates say, since neither stands on the other, is the same: the order of names and of paths, the path above, the
-/// last name, a set without a name, the shape of a description's value, and a table that lacks its flags.
+/// last name, the shape of a description's value, and a table that lacks its flags.
 pub fn what_is_said_twice_is_the_same()
     ensures { SaidTwice }
 {}

@@ -1,9 +1,8 @@
 -- The value of digits, digit by digit.
-use Rattle.std.proofs.Common.{◌≡◌, ℕ, ◌+◌, ◌-◌, ◌*◌, ◌<◌, ◌≤◌, true, List, [], ◌∷◌, length, take, drop, get_or, sym, ap, ◌∙◌, arith, take-append-drop}
-use Rattle.std.specs.List.{list_all, fold}
-use Rattle.std.proofs.lemmas.Bool.{and_parts, leb-true}
-use Rattle.std.proofs.lemmas.List.Sums.{fold-append, fold_more, AllPass-from_list_all}
-use Rattle.fx_lex.specs.Spelling.{is_digit, digits_value}
+use Rattle.std.proofs.Common.{◌≡◌, ℕ, ◌+◌, ◌-◌, ◌*◌, ◌<◌, ◌≤◌, List, [], ◌∷◌, length, take, drop, get_or, sym, ap, ◌∙◌, arith, take-append-drop}
+use Rattle.std.specs.List.{fold}
+use Rattle.std.proofs.lemmas.List.Sums.{fold-append, fold_more}
+use Rattle.fx_lex.specs.Spelling.{digits_value}
 
 grows : (n : ℕ) (digits : List ℕ) → n ≤ fold (λ n digit. 10 * n + (digit - 48)) n digits
 grows n [] = omega arith
@@ -18,8 +17,3 @@ value_grows digits i =
     let joined = ap digits_value (sym (take-append-drop i digits)) ∙ fold-append (λ n digit. 10 * n + (digit - 48)) 0 (take i digits) (drop i digits) in
     let rest = grows (digits_value (take i digits)) (drop i digits) in
     omega (arith, joined, rest)
-
-pub digit_at : (digits : List ℕ) (i : ℕ) → list_all is_digit digits ≡ true → i < length digits → 48 ≤ get_or digits i 0
-digit_at digits i h lt =
-    let passes = AllPass-from_list_all is_digit digits h i 0 lt in
-    leb-true 48 (get_or digits i 0) (and_parts _ _ passes).0

@@ -46,9 +46,6 @@ module _ (text bytes more : List ℕ) (place : ℕ) (tokens : List Spanned) (r :
     found = ap (λ l. l ++ record { token = t; start = place; stop = place + length bytes } ∷ []) r.found ∙ sym (spans_lexeme 0 place r.pieces bytes t (omega (arith, r.reached)));
   }
 
-pub reads_none : (text : List ℕ) → Reads text 0 text []
-reads_none text = record { pieces = []; right = tt; whole = refl; reached = refl; found = refl }
-
 -- the same over the text from a place on
 module _ (text : List ℕ) (place n : ℕ) (tokens : List Spanned) (r : Reads text place (drop place text) tokens) (within : n ≤ length (drop place text)) where
   parted : Reads text place (take n (drop place text) ++ drop n (drop place text)) tokens

@@ -18,7 +18,7 @@ use Rattle.fx_store.proofs.Placing.{IsNameSet-without}
 use Rattle.fx_expr.specs.Sets.{set_of, with_text}
 use Rattle.fx_expr.specs.Tree.{Tree}
 use Rattle.fx_spec.specs.declared.refusal.Refusal.{Refusal}
-use Rattle.fx_spec.specs.Edit.{renewed, is_flag, set_to, removed, names_of, cleared, clear_levels, clear, entry, entries, new_names, lacks_room, unless_deep, replaced, made, make, is_too_deep, store_landed, stored_node, follows_last, store_at, bare_node, create_landed, create_at, last_name, without_name, remove_entry, remove_landed, remove_at}
+use Rattle.fx_spec.specs.Edit.{renewed, is_flag, set_to, removed, names_of, cleared, clear_levels, clear, entry, entries, new_names, lacks_room, unless_deep, replaced, made, make, is_too_deep, store_landed, stored_node, follows_last, store_at, bare_node, create_landed, create_at, last_name, remove_entry, remove_landed, remove_at}
 use Rattle.fx_spec.specs.Move.{Answered, unrefused, needed}
 use Rattle.fx_spec.specs.Place.{PlaceTree}
 use Rattle.fx_spec.proofs.EditsKeep.{empty_file, ends_in}
@@ -28,6 +28,7 @@ use Rattle.fx_machine.specs.Asks.{MayStand, AsksPaths, MaySet}
 use Rattle.fx_machine.proofs.Asking.{asks_then, IsLanding}
 use Rattle.fx_machine.proofs.Resolving.{IsPath-parent, resolve_asks}
 use Rattle.fx_machine.proofs.EditedNodes.{sets_none, sets_more, sets_both, names_found, set_of_names, dir_fits, roomy_fits, made_may}
+use Rattle.fx_base.specs.Sets.{without_name}
 
 -- the changes of an edit that is not refused
 abbrev pub edit_sets : Answered (List Change) → Type 0

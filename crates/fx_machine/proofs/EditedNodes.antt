@@ -22,8 +22,6 @@ use Rattle.fx_spec.proofs.EditsMake.{IsNameSet-with}
 use Rattle.fx_spec.proofs.EditLaws.{NodeOk, has_room}
 use Rattle.fx_machine.specs.Asks.{MayStand, MaySet}
 
--- ---------------------------------------------------------------------------------------------------------------- paths
-
 -- -------------------------------------------------------------------------------------------------------------- changes
 
 abbrev IsSet : Change → Type 0

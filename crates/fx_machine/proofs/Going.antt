@@ -11,13 +11,14 @@ use Rattle.fx_store.specs.declared.node.Node.{Node}
 use Rattle.fx_store.specs.declared.changes.Change.{Change}
 use Rattle.fx_store.specs.Names.{path_cmp, IsPath}
 use Rattle.fx_store.specs.Whole.{Store, Nodes, IsWhole, over}
+use Rattle.fx_store.specs.Orders.{path_eq_same}
 use Rattle.fx_spec.specs.SpecTree.{SpecTree}
 use Rattle.fx_spec.specs.CommandTree.{CommandTree}
 use Rattle.fx_spec.specs.Plans.{Turn}
 use Rattle.fx_spec.specs.Order.{BaseTree, state}
 use Rattle.fx_spec.specs.Task.{Task, Ends, Looks, Sets, consulted, once}
 use Rattle.fx_spec.specs.Transaction.{transaction, way}
-use Rattle.fx_spec.proofs.Tasks.{eq_paths, same_over}
+use Rattle.fx_spec.proofs.Tasks.{same_over}
 use Rattle.fx_spec.proofs.Transactions.{states_are_whole}
 use Rattle.fx_machine.specs.declared.event.Event.TheVariants as event
 use Rattle.fx_machine.specs.Laws.{IsReached}
@@ -56,7 +57,7 @@ first_filter looks p is (q ∷ ps) = at (eq_by_cmp path_cmp p q) refl (first_fil
   where
     at : (b : Bool) → eq_by_cmp path_cmp p q ≡ b → first_unseen looks (filter (λ q. not (eq_by_cmp path_cmp p q)) ps) ≡ first_unseen looks ps
         → first_unseen looks (cond (not b) (q ∷ filter (λ q. not (eq_by_cmp path_cmp p q)) ps) (filter (λ q. not (eq_by_cmp path_cmp p q)) ps)) ≡ cond (is_some (position_at looks q)) (first_unseen looks ps) (Some q)
-    at true e rest = rest ∙ ap (λ b. cond b (first_unseen looks ps) (Some q)) (sym (ap (λ x. is_some (position_at looks x)) (sym (eq_paths p q e)) ∙ is))
+    at true e rest = rest ∙ ap (λ b. cond b (first_unseen looks ps) (Some q)) (sym (ap (λ x. is_some (position_at looks x)) (sym (path_eq_same p q e)) ∙ is))
     at false e rest = ap (λ x. cond (is_some (position_at looks q)) x (Some q)) rest
 
 first_once : (looks : List Look) (ps : List Path) → first_unseen looks (once ps) ≡ first_unseen looks ps

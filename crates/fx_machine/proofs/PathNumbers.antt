@@ -12,8 +12,6 @@ use Rattle.fx_store.specs.Faults.{read_path}
 use Rattle.fx_store.proofs.PathLists.{read_path_text, short_name, path_bytes}
 use Rattle.fx_machine.specs.Measure.{most_paths}
 
--- ---- bytes
-
 -- ---- texts
 
 joined_short : (path : List (List ℕ)) → All IsName path → length (flat_map (λ n. 47 ∷ n) path) ≤ length path * 256

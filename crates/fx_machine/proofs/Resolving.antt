@@ -1,18 +1,18 @@
 -- The rule of resolution looks at paths alone, and it lands at a path or at the missing names below one.
-use Rattle.std.proofs.Common.{◌≡◌, ℕ, zero, suc, ◌-◌, Bool, true, false, cond, ◌&&◌, ◌||◌, refl, sym, ◌∙◌, List, [], ◌∷◌, ◌++◌, map, length, Option, Some, None, nat_lt, nat_le, arith, length-append, bytes_eq, codes}
-use Rattle.std.specs.List.{All, list_all}
+use Rattle.std.proofs.Common.{◌≡◌, ℕ, zero, suc, ◌-◌, Bool, true, false, cond, refl, List, [], ◌∷◌, ◌++◌, map, length, Option, Some, None, arith, length-append}
+use Rattle.std.specs.List.{All}
 use Rattle.std.specs.Option.{option_map}
-use Rattle.std.proofs.lemmas.Bool.{true≢false, ltb-false}
+use Rattle.std.proofs.lemmas.Bool.{ltb-false}
 use Rattle.std.proofs.lemmas.List.{length-take-le}
-use Rattle.std.proofs.lemmas.List.Elements.{All-nil, All-cons, All-append, All-head, All-tail, All-take}
-use Rattle.fx_base.proofs.Booleans.{third_true}
+use Rattle.std.proofs.lemmas.List.Elements.{All-nil, All-cons, All-append, All-take}
 use Rattle.fx_store.specs.declared.node.Node.{Node}
 use Rattle.fx_store.specs.declared.node.Node.TheVariants.{File, Dir, Link}
 use Rattle.fx_store.specs.declared.node.Landing.{Landing}
-use Rattle.fx_store.specs.Names.{is_name, IsName, IsPath, IsLinkText, is_component, components, is_absolute}
+use Rattle.fx_store.specs.Names.{IsName, IsPath, is_absolute}
 use Rattle.fx_store.specs.Rule.{Ask, Answer, Look}
-use Rattle.fx_store.specs.Resolve.{Component, CurDir, ParentDir, Normal, component_of, components_of, start, ◌/ₚ◌, parent, is_full, names_only, absent, missing, at_file, goes_along, at_link, Walk, at_name, walk, along, resolve}
+use Rattle.fx_store.specs.Resolve.{Component, CurDir, ParentDir, Normal, components_of, start, ◌/ₚ◌, parent, is_full, names_only, absent, missing, at_file, goes_along, at_link, Walk, at_name, walk, along, resolve}
 use Rattle.fx_store.proofs.WholeStores.{IsPath-root}
+use Rattle.fx_store.proofs.Components.{AreNamed, named_append, link_named, path_named}
 use Rattle.fx_machine.specs.Asks.{MayStand, AsksPaths}
 use Rattle.fx_machine.proofs.Asking.{IsLanding}
 
@@ -36,19 +36,6 @@ IsPath-below p n is name room = record {
 
 -- ------------------------------------------------------------------------------------------------------------- components
 
--- each component that is an entry has a name
-abbrev AreNamed : List Component → Type 0
-AreNamed [] = Unit {0}
-AreNamed (CurDir ∷ rest) = AreNamed rest
-AreNamed (ParentDir ∷ rest) = AreNamed rest
-AreNamed (Normal n ∷ rest) = IsName n × AreNamed rest
-
-named_append : (a b : List Component) → AreNamed a → AreNamed b → AreNamed (a ++ b)
-named_append [] b x y = y
-named_append (CurDir ∷ a) b x y = named_append a b x y
-named_append (ParentDir ∷ a) b x y = named_append a b x y
-named_append (Normal n ∷ a) b x y = (x.0, named_append a b x.1 y)
-
 -- the names of a rest, where it has names alone
 abbrev AreAll : Option (List (List ℕ)) → Type 0
 AreAll None = Unit {0}
@@ -70,34 +57,6 @@ absent_lands here (Some names) is all = (is, all)
 
 missing_lands : (here : List (List ℕ)) (n : List ℕ) (rest : List Component) → IsPath here → IsName n → AreNamed rest → IsLanding (missing here n rest)
 missing_lands here n rest is name are = absent_lands here (names_only (Normal n ∷ rest)) is (names_only_named (Normal n ∷ rest) (name, are))
-
--- the components of a link text are names, or lead nowhere else
-component_named : (c : List ℕ) (rest : List Component) → is_component c ≡ true → AreNamed rest → AreNamed (component_of c ∷ rest)
-component_named c rest e are = at (bytes_eq c (codes ".")) (bytes_eq c (codes "..")) refl refl
-  where
-    at : (a b : Bool) → bytes_eq c (codes ".") ≡ a → bytes_eq c (codes "..") ≡ b → AreNamed (cond a CurDir (cond b ParentDir (Normal c)) ∷ rest)
-    at true b f g = are
-    at false true f g = are
-    at false false f g = (plain (is_name c) refl, are)
-      where
-        plain : (b : Bool) → is_name c ≡ b → is_name c ≡ true
-        plain true h = h
-        plain false h = absurd (true≢false (sym e ∙ (λ i. h i || f i || g i)))
-
-components_named : (parts : List (List ℕ)) → list_all is_component parts ≡ true → AreNamed (map component_of parts)
-components_named [] e = tt
-components_named (c ∷ parts) e = at (is_component c) refl e (components_named parts)
-  where
-    at : (b : Bool) → is_component c ≡ b → (b && list_all is_component parts) ≡ true → (list_all is_component parts ≡ true → AreNamed (map component_of parts)) → AreNamed (component_of c ∷ map component_of parts)
-    at true f h rest = component_named c (map component_of parts) f (rest h)
-    at false f h rest = absurd (true≢false (sym h))
-
-link_named : (text : List ℕ) → IsLinkText text → AreNamed (components_of text)
-link_named text is = components_named (components text) (third_true (nat_lt 0 (length text)) (nat_le (length text) 4096) (list_all is_component (components text)) is.form)
-
-path_named : (p : List (List ℕ)) → All IsName p → AreNamed (map Normal p)
-path_named [] all = tt
-path_named (n ∷ p) all = (All-head IsName n p all, path_named p (All-tail IsName n p all))
 
 -- ------------------------------------------------------------------------------------------------------------- walks
 

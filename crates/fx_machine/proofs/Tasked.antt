@@ -7,6 +7,7 @@ use Rattle.fx_store.specs.declared.changes.Change.{Change}
 use Rattle.fx_store.specs.Names.{path_cmp, IsPath}
 use Rattle.fx_store.specs.Rule.{Ask, Answer}
 use Rattle.fx_store.specs.Whole.{Store, update, over}
+use Rattle.fx_store.specs.Orders.{path_eq_same}
 use Rattle.fx_expr.specs.Eval.{eval_of, text_in, names_in, truth_in}
 use Rattle.fx_expr.specs.Tree.{Tree}
 use Rattle.fx_spec.specs.SpecTree.{SpecTree}
@@ -17,7 +18,6 @@ use Rattle.fx_spec.specs.Move.{Answered, unrefused, evaluated, at_place, go_into
 use Rattle.fx_spec.specs.Edit.{store_at, create_at, remove_at}
 use Rattle.fx_spec.specs.Task.{Task, Ends, Looks, Sets, consulted, once, asking, ◌>=>◌}
 use Rattle.fx_spec.specs.Transaction.{Effect, Moves, Changes, moves, edits, moving, editing, from_place, effect, Standing, Flow, On, Over, go_on, binding, assigning, or_stop, taking, tried, leaving, within, each_in, run, run_block, transaction}
-use Rattle.fx_spec.proofs.Tasks.{eq_paths}
 use Rattle.fx_machine.specs.Asks.{MayStand, AsksPaths, MaySet, TaskAsksPaths, HoldsNodes, LooksAtPaths}
 use Rattle.fx_machine.proofs.Asking.{asks_then, asking_then, task_then}
 use Rattle.fx_machine.proofs.Valued.{Asks, at_place_asks, asks_at_place, go_into_asks, go_to_asks, go_down_asks, go_next_asks, go_prev_asks, fetch_asks, whole_asks, validate_asks}
@@ -153,7 +153,7 @@ holds_update : (S : Store) (c : Change) → HoldsNodes S → MayStand c.path c.n
 holds_update S c holds may path = at (eq_by_cmp path_cmp path c.path) refl
   where
     at : (b : Bool) → eq_by_cmp path_cmp path c.path ≡ b → MayStand path (cond b c.node (S path))
-    at true e = subst (λ p. MayStand p c.node) (sym (eq_paths path c.path e)) may
+    at true e = subst (λ p. MayStand p c.node) (sym (path_eq_same path c.path e)) may
     at false e = holds path
 
 pub holds_over : (S : Store) (changes : List Change) → HoldsNodes S → MaySet changes → HoldsNodes (over S changes)

@@ -1,8 +1,8 @@
 -- Short ways to write how a machine runs over a form and how a reader reads it.
-use Rattle.std.proofs.Common.{◌≡◌, ℕ, Bool, true, false, cond, Option, Some, None, Result, Ok, Err, List, [], ◌∷◌, ◌++◌, refl, sym, ap, ◌∙◌, append_assoc}
+use Rattle.std.proofs.Common.{◌≡◌, ℕ, Some, Result, Ok, Err, List, [], ◌∷◌, ◌++◌, refl, sym, ap, ◌∙◌, append_assoc}
 use Rattle.fx_lex.specs.declared.token.Token.{Token}
-use Rattle.fx_parse.specs.Stuck.{Stuck, Unexpected, ◌>>=◌}
-use Rattle.fx_parse.proofs.Machine.{Table, Runs, run_on, scan, scan_from}
+use Rattle.fx_parse.specs.Stuck.{Stuck, ◌>>=◌}
+use Rattle.fx_parse.proofs.Machine.{Table, Runs, run_on}
 use Rattle.fx_parse.proofs.ExprLink.{same_then, then_then}
 
 module _ {Sym : Type 0} (m : Table Sym) where

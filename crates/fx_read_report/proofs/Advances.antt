@@ -6,7 +6,7 @@ use Rattle.fx_expr.specs.Tree.{Tree}
 use Rattle.fx_machine.specs.declared.retry.Retry.{Retry}
 use Rattle.fx_report.specs.declared.printed.PrintedEntry.{PrintedEntry}
 use Rattle.fx_read_report.specs.Lines.{Line, head, entries, entry, print, retries, retry, final}
-use Rattle.fx_read_report.specs.Stages.{State, at, entry_begun, with_line, next_at, with_last_output, start_state}
+use Rattle.fx_read_report.specs.Stages.{State, entry_begun, with_line, next_at, with_last_output, start_state}
 use Rattle.fx_read_report.specs.declared.reading.Stage.{Stage}
 use Rattle.fx_read_report.specs.declared.reading.Stage.TheVariants as stage
 use Rattle.fx_read_report.proofs.FirstBad.{kept}

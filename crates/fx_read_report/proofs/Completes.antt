@@ -1,5 +1,5 @@
 -- What was read goes on to a report.
-use Rattle.std.proofs.Common.{◌≡◌, ℕ, zero, suc, ◌+◌, ◌-◌, ◌^◌, ◌<◌, ◌≤◌, nat_eq, List, [], ◌∷◌, ◌++◌, length, map, replicate, refl, sym, ap, subst, ◌∙◌, length-append, arith, lit<}
+use Rattle.std.proofs.Common.{ℕ, zero, suc, ◌+◌, ◌-◌, ◌^◌, ◌<◌, ◌≤◌, nat_eq, List, [], ◌∷◌, ◌++◌, length, map, replicate, refl, sym, subst, ◌∙◌, length-append, arith, lit<}
 use Rattle.std.specs.List.{AllByRecursion}
 use Rattle.std.proofs.lemmas.Bool.{eq-eqb}
 use Rattle.std.proofs.lemmas.List.{length-replicate}
@@ -10,7 +10,7 @@ use Rattle.fx_machine.specs.declared.retry.Retry.{Retry}
 use Rattle.fx_report.specs.declared.printed.PrintedEntry.{PrintedEntry}
 use Rattle.fx_store.specs.Names.{IsName}
 use Rattle.fx_read_report.specs.Form.{IsFormEntry, IsFormRetry}
-use Rattle.fx_read_report.specs.Lines.{IsLine, Line, head, entries, retries, retry, final}
+use Rattle.fx_read_report.specs.Lines.{IsLine, head, entries, retries, retry, final}
 use Rattle.fx_read_report.specs.Stages.{State, at, entry_begun}
 use Rattle.fx_read_report.specs.declared.reading.Stage.{Stage}
 use Rattle.fx_read_report.specs.declared.reading.Stage.TheVariants as stage

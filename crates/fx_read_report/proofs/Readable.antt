@@ -11,12 +11,12 @@ use Rattle.fx_spec.specs.declared.refusal.End.{End}
 use Rattle.fx_spec.specs.declared.refusal.End.TheVariants as end
 use Rattle.fx_machine.specs.declared.retry.Retry.{Retry}
 use Rattle.fx_report.specs.Print.{quote, value_text}
-use Rattle.fx_report.specs.Readable.{AreBytes, AreEntries, AreEntryNames, AreHeld, AreRetries, AreTexts, AreTrees, IsEntryName, IsHeld, IsHeldEnd, IsHeldRefusal, IsHeldReport, IsHeldRetry, LacksSlash}
+use Rattle.fx_report.specs.Readable.{AreBytes, AreEntries, AreEntryNames, AreHeld, AreRetries, AreTexts, AreTrees, IsEntryName, IsHeld, IsHeldEnd, IsHeldRefusal, IsHeldReport, LacksSlash}
 use Rattle.fx_report.specs.Report.{report_text}
 use Rattle.fx_report.specs.declared.printed.PrintedEntry.{PrintedEntry}
 use Rattle.fx_read_report.specs.Form.{IsReportOf}
 use Rattle.fx_read_report.specs.Limits.{Limits}
-use Rattle.fx_read_report.specs.Lines.{IsLine, Line, head, entries, entry, print, retries, retry, final, line_text}
+use Rattle.fx_read_report.specs.Lines.{IsLine, Line, entry, print, retries, retry, final, line_text}
 use Rattle.fx_read_report.specs.Quotes.{unquoted}
 use Rattle.fx_read_report.specs.Values.{value_at}
 use Rattle.fx_read_report.proofs.LineLaws.{IsLineIn, one_line, one_line_in}

@@ -1,13 +1,12 @@
 -- Bytes are read as a report, or have a first line that goes wrong.
-use Rattle.std.proofs.Common.{◌≡◌, ℕ, ◌+◌, true, false, List, [], drop, take, Bool, cond, Option, Some, None, Result, Ok, Err, IfOk, refl, sym, ap, subst, ◌∙◌}
+use Rattle.std.proofs.Common.{◌≡◌, ℕ, true, false, List, [], take, Bool, cond, Some, None, Result, Ok, Err, IfOk, refl, sym, ap, subst, ◌∙◌}
 use Rattle.std.specs.List.{AllByRecursion}
-use Rattle.std.proofs.lemmas.Bool.{both_ways}
 use Rattle.fx_machine.specs.declared.retry.Retry.{Retry}
 use Rattle.fx_report.specs.declared.printed.PrintedEntry.{PrintedEntry}
 use Rattle.fx_read_report.specs.Feeds.{IsFeedAt, LacksFeed}
 use Rattle.fx_read_report.specs.Form.{BeginsReport, IsFirstWrongLine, IsReportOf}
 use Rattle.fx_read_report.specs.Lines.{FindsLine, IsLine, Line}
-use Rattle.fx_read_report.specs.Stages.{State, TakesText, at, is_ended, with_line, start_state}
+use Rattle.fx_read_report.specs.Stages.{State, TakesText, at, is_ended, with_line}
 use Rattle.fx_read_report.specs.declared.reading.Stage.{Stage}
 use Rattle.fx_read_report.specs.declared.reading.Stage.TheVariants as stage
 use Rattle.fx_read_report.proofs.Advances.{lines_at, read}

@@ -5,7 +5,7 @@ use Rattle.std.proofs.lemmas.Bool.{lt-ltb, and_from, eq-eqb}
 use Rattle.fx_expr.specs.Tree.{Tree}
 use Rattle.fx_machine.specs.declared.retry.Retry.{Retry}
 use Rattle.fx_report.specs.declared.printed.PrintedEntry.{PrintedEntry}
-use Rattle.fx_read_report.specs.Lines.{Line, head, entries, entry, print, retries, retry, final}
+use Rattle.fx_read_report.specs.Lines.{Line, entries, print, retries, retry, final}
 use Rattle.fx_read_report.specs.Stages.{State, at, entry_begun, with_line, start_state}
 use Rattle.fx_read_report.specs.declared.reading.Stage.TheVariants as stage
 use Rattle.fx_read_report.proofs.FirstBad.{run}

@@ -18,7 +18,7 @@ use Rattle.fx_expr.proofs.Trees.{table_tree}
 use Rattle.fx_read_report.specs.Limits.{ascends, strict}
 use Rattle.fx_read_report.specs.Numbers.{after}
 use Rattle.fx_read_report.proofs.Scans.{prepended}
-use Rattle.fx_read_report.specs.Values.{Reader, keys_of, kind_at, or_pieces, piece_at, pieces_at, row_at, table_within, table_value, value_at, value_by, value_found}
+use Rattle.fx_read_report.specs.Values.{keys_of, kind_at, or_pieces, piece_at, pieces_at, row_at, table_within, table_value, value_at, value_by, value_found}
 use Rattle.fx_read_report.specs.declared.values.Kind.{Kind}
 
 prepended_none : {A : Type 0} (o : Option (List A × List ℕ)) → o ≡ prepended [] o

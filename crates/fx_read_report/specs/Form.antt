@@ -1,5 +1,5 @@
 -- The form of a report, and the first line at which bytes leave it.
-use Rattle.std.specs.Prelude.{◌≡◌, ℕ, ◌^◌, ◌<◌, List, [], ◌∷◌, ◌++◌, length}
+use Rattle.std.specs.Prelude.{◌≡◌, ℕ, ◌^◌, ◌<◌, List, ◌++◌, length}
 use Rattle.std.specs.List.{AllByRecursion, flat_map}
 use Rattle.fx_store.specs.Names.{IsPath}
 use Rattle.fx_spec.specs.declared.refusal.Refusal.{Refusal}

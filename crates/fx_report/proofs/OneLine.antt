@@ -7,6 +7,7 @@ use Rattle.std.proofs.lemmas.Bool.Decides.{nat_tests}
 use Rattle.fx_expr.specs.Tree.{Tree, TreeRows, str, int, bool, names, pair, nothing, some, table, no_rows, row}
 use Rattle.fx_expr.specs.declared.fault.ExprFault.{ExprFault}
 use Rattle.fx_expr.specs.declared.fault.ExprFault.TheVariants.{TooLong, Overflow, NotNumber}
+use Rattle.fx_expr.specs.Faults.{fault_text}
 use Rattle.fx_store.specs.Names.{path_text}
 use Rattle.fx_spec.specs.Refusals.{refusal_number}
 use Rattle.fx_spec.specs.declared.refusal.Refusal.{Refusal}
@@ -14,7 +15,7 @@ use Rattle.fx_spec.specs.declared.refusal.Refusal.TheVariants.{Blocked, Expr}
 use Rattle.fx_spec.specs.declared.refusal.End.{End}
 use Rattle.fx_spec.specs.declared.refusal.End.TheVariants.{Done, Stopped, Aborted}
 use Rattle.fx_report.specs.Print.{comma, is_printable, joined, quote, row_texts, spelled, value_text}
-use Rattle.fx_report.specs.Report.{end_text, fault_name, field, refusal_text}
+use Rattle.fx_report.specs.Report.{end_text, field, refusal_text}
 
 -- no byte is a line feed
 abbrev pub one_line : List ℕ → Bool
@@ -116,7 +117,7 @@ pub field_line : (words : List ℕ) (n : ℕ) → IsLine words → IsLine (field
 unfolding field
 field_line words n p = line_append words (decimal n) p (decimal_line n)
 
-fault_line : (f : ExprFault) → IsLine (fault_name f)
+fault_line : (f : ExprFault) → IsLine (fault_text f)
 fault_line TooLong = refl
 fault_line Overflow = refl
 fault_line NotNumber = refl

@@ -3,8 +3,7 @@ use Rattle.std.specs.Prelude.{ℕ, ◌+◌, List, [], ◌∷◌, ◌++◌, codes
 use Rattle.std.specs.Fmt.{decimal}
 use Rattle.std.specs.List.{flat_map}
 use Rattle.fx_expr.specs.Tree.{Tree}
-use Rattle.fx_expr.specs.declared.fault.ExprFault.{ExprFault}
-use Rattle.fx_expr.specs.declared.fault.ExprFault.TheVariants.{TooLong, Overflow, NotNumber}
+use Rattle.fx_expr.specs.Faults.{fault_text}
 use Rattle.fx_spec.specs.Refusals.{refusal_number}
 use Rattle.fx_spec.specs.declared.refusal.Refusal.{Refusal}
 use Rattle.fx_spec.specs.declared.refusal.Refusal.TheVariants.{NoStep, NoElement, NoPlace, Lacks, WrongForm, Blocked, TooDeep, BadName, NoDefault, Expr, Absent, Exists, TooUnfolded}
@@ -23,11 +22,6 @@ line text = text ++ codes "\n"
 unfoldable pub field : List ℕ → ℕ → List ℕ
 field words number = words ++ decimal number
 
-abbrev pub fault_name : ExprFault → List ℕ
-fault_name TooLong = codes "TooLong"
-fault_name Overflow = codes "Overflow"
-fault_name NotNumber = codes "NotNumber"
-
 -- the name of a refusal, with what it carries after it
 abbrev pub refusal_text : Refusal → List ℕ
 refusal_text NoStep = codes "NoStep"
@@ -39,7 +33,7 @@ refusal_text (Blocked path) = codes "Blocked " ++ quote (path_text path)
 refusal_text TooDeep = codes "TooDeep"
 refusal_text BadName = codes "BadName"
 refusal_text NoDefault = codes "NoDefault"
-refusal_text (Expr fault) = codes "Expr " ++ fault_name fault
+refusal_text (Expr fault) = codes "Expr " ++ fault_text fault
 refusal_text Absent = codes "Absent"
 refusal_text Exists = codes "Exists"
 refusal_text TooUnfolded = codes "TooUnfolded"

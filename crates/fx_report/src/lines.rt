@@ -1,5 +1,6 @@
 ghost use Rattle.std.specs.Prelude.{◌≡◌, ◌≤◌, ◌++◌, OnOk, IfOk, IfSome, codes, drop, length};
 ghost use Rattle.std.specs.List.{flat_map};
+ghost use Rattle.fx_expr.specs.Faults.{fault_text};
 ghost use Rattle.fx_expr.specs.Views.{tree_of};
 ghost use Rattle.fx_report.specs.Entries as whole;
 ghost use Rattle.fx_report.specs.Events as told;
@@ -36,7 +37,7 @@ pub(crate) fn add_count_line(out: &mut Vec<u8>, words: &[u8], count: u64) -> Res
 }
 
 fn add_fault(out: &mut Vec<u8>, fault: &ExprFault) -> Result<(), NoMemory>
-    ensures { OnOk result (out.new.items ≡ out.old.items ++ report.fault_name fault.now) }
+    ensures { OnOk result (out.new.items ≡ out.old.items ++ fault_text fault.now) }
 {
     match fault {
         ExprFault::TooLong => add_bytes(out, b"TooLong"),

@@ -59,8 +59,6 @@ pursuit-then own (Ends a) next = refl
 pursuit-then {A} {B} own (Looks p t) next = ap (λ (f : Option Node → Ask (Came B)). Look p f) (fun_ext (λ n. pursuit-then own (t (seen (own_at own p) n)) next))
 pursuit-then own (Sets changes t) next = pursuit-then (put_all own changes) t next
 
--- ---- own changes that are set
-
 -- ---- at a filestore
 
 pub pursued_end : {A : Type 0} (S : Store) (own : OwnList) (t : Task A) → (answer S (pursuit own t)).end ≡ result (changed (own_at own) S) t

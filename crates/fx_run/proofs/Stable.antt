@@ -5,7 +5,7 @@ use Rattle.fx_base.proofs.Names.{path_itself}
 use Rattle.fx_store.specs.declared.node.Node.{Node}
 use Rattle.fx_store.specs.declared.node.Node.TheVariants.{File, Dir, Link}
 use Rattle.fx_store.specs.Names.{path_cmp}
-use Rattle.fx_spec.proofs.Tasks.{eq_paths}
+use Rattle.fx_store.specs.Orders.{path_eq_same}
 
 abbrev Stable : {A : Type 0} → A → A → Type 0
 Stable a b = (a ≢ b → ⊥) → a ≡ b
@@ -14,7 +14,7 @@ stable_path : (p q : List (List ℕ)) → Stable p q
 stable_path p q h = at (eq_by_cmp path_cmp p q) refl
   where
     at : (b : Bool) → eq_by_cmp path_cmp p q ≡ b → p ≡ q
-    at true is = eq_paths p q is
+    at true is = path_eq_same p q is
     at false is = absurd (h (λ e. let wrong : true ≡ false = sym (path_itself p) ∙ ap (eq_by_cmp path_cmp p) e ∙ is in cc))
 
 stable_text : (a b : List ℕ) → Stable a b

@@ -7,8 +7,8 @@ use Rattle.std.proofs.lemmas.List.Elements.{All-nil, All-cons, All-head, All-tai
 use Rattle.fx_base.proofs.Lists.{Contains-later, Contains-first}
 use Rattle.fx_store.specs.Names.{path_cmp}
 use Rattle.fx_store.specs.Rule.{Known, first_unknown}
+use Rattle.fx_store.specs.Orders.{path_eq_same}
 use Rattle.fx_spec.specs.Task.{once}
-use Rattle.fx_spec.proofs.Tasks.{eq_paths}
 use Rattle.fx_view.specs.ReadList.{ReadList}
 use Rattle.fx_view.specs.Reads.{read_at, IsRead}
 
@@ -44,7 +44,7 @@ all_in_once (p ∷ ps) =
     (All-weaker (Contains (once ps)) (Contains (once (p ∷ ps))) (λ x h. at (eq_by_cmp path_cmp p x) x refl h) ps (all_in_once ps))
   where
     at : (b : Bool) (x : Path) → eq_by_cmp path_cmp p x ≡ b → Contains (once ps) x → Contains (p ∷ filter (λ q. not (eq_by_cmp path_cmp p q)) (once ps)) x
-    at true x is h = subst (Contains (p ∷ filter (λ q. not (eq_by_cmp path_cmp p q)) (once ps))) (eq_paths p x is) (Contains-first p (filter (λ q. not (eq_by_cmp path_cmp p q)) (once ps)))
+    at true x is h = subst (Contains (p ∷ filter (λ q. not (eq_by_cmp path_cmp p q)) (once ps))) (path_eq_same p x is) (Contains-first p (filter (λ q. not (eq_by_cmp path_cmp p q)) (once ps)))
     at false x is h =
         Contains-later p (filter (λ q. not (eq_by_cmp path_cmp p q)) (once ps)) x
         (All-contains (λ y. not (eq_by_cmp path_cmp p y) ≡ true → Contains (filter (λ q. not (eq_by_cmp path_cmp p q)) (once ps)) y) (once ps) x (kept_by (λ q. not (eq_by_cmp path_cmp p q)) (once ps)) h (ap not is))
@@ -60,7 +60,7 @@ first_filter known p is (q ∷ ps) = at (eq_by_cmp path_cmp p q) refl (first_fil
   where
     at : (b : Bool) → eq_by_cmp path_cmp p q ≡ b → first_unknown known (filter (λ q. not (eq_by_cmp path_cmp p q)) ps) ≡ first_unknown known ps
         → first_unknown known (cond (not b) (q ∷ filter (λ q. not (eq_by_cmp path_cmp p q)) ps) (filter (λ q. not (eq_by_cmp path_cmp p q)) ps)) ≡ cond (is_some (known q)) (first_unknown known ps) (Some q)
-    at true e rest = rest ∙ ap (λ b. cond b (first_unknown known ps) (Some q)) (sym (ap (λ x. is_some (known x)) (sym (eq_paths p q e)) ∙ is))
+    at true e rest = rest ∙ ap (λ b. cond b (first_unknown known ps) (Some q)) (sym (ap (λ x. is_some (known x)) (sym (path_eq_same p q e)) ∙ is))
     at false e rest = ap (λ x. cond (is_some (known q)) x (Some q)) rest
 
 pub first-once : (known : Known) (ps : List Path) → first_unknown known (once ps) ≡ first_unknown known ps
@@ -91,5 +91,5 @@ read_among [] (e ∷ es) p h = inr (at (eq_by_cmp path_cmp p e.0) refl h (λ k. 
     later (inr k) = k
 
     at : (b : Bool) → eq_by_cmp path_cmp p e.0 ≡ b → IsSome (cond b (Some e.1) (read_at es p)) → (IsRead es p → Contains (keys_of es) p) → Contains (e.0 ∷ keys_of es) p
-    at true is k rest = subst (Contains (e.0 ∷ keys_of es)) (sym (eq_paths p e.0 is)) (Contains-first e.0 (keys_of es))
+    at true is k rest = subst (Contains (e.0 ∷ keys_of es)) (sym (path_eq_same p e.0 is)) (Contains-first e.0 (keys_of es))
     at false is k rest = Contains-later e.0 (keys_of es) p (rest k)

@@ -1,5 +1,5 @@
 -- A shell and its plan: what a look, a plan, a settle and a refusal leave of them.
-use Rattle.std.proofs.Common.{◌≡◌, ℕ, zero, suc, ◌+◌, ◌-◌, ◌<◌, ◌≤◌, Bool, true, false, cond, List, [], ◌∷◌, ◌++◌, length, take, drop, slice_get, Option, Some, None, is_some, IsSome, Result, refl, sym, ap, subst, ◌∙◌, ◌⊎◌, inl, inr, arith, add-one, length-append, append_assoc}
+use Rattle.std.proofs.Common.{◌≡◌, ℕ, zero, suc, ◌+◌, ◌-◌, ◌<◌, ◌≤◌, Bool, true, false, cond, List, [], ◌∷◌, ◌++◌, length, take, drop, slice_get, Option, Some, None, is_some, IsSome, Result, refl, sym, ap, subst, ◌∙◌, ◌⊎◌, inl, inr, arith, add-one, length-append}
 use Rattle.std.specs.Prelude.{IfSome, IfOk}
 use Rattle.std.proofs.lemmas.Result.{IfOk-weaker}
 use Rattle.fx_base.specs.declared.NoMemory.{NoMemory}
@@ -35,7 +35,7 @@ use Rattle.fx_board.proofs.Settling.{stands_now}
 use Rattle.fx_diaries.proofs.Looks.{all_read, once_more, true_more}
 use Rattle.fx_sched.specs.declared.shell.Plan.{Plan}
 use Rattle.fx_sched.specs.declared.shell.Shell.{Shell}
-use Rattle.fx_sched.specs.Present.{AreCurrent, IsNowIn}
+use Rattle.fx_board.specs.Present.{AreCurrent, IsNowIn}
 use Rattle.fx_sched.specs.Shells.{looked_in, attempt_of, IsShellPlan, IsShell, HasReadyPlan, HasLooksOf}
 use Rattle.fx_sched.specs.Moves.{HasLooked, HasJoined, HasRestarted, Moved, retry_of}
 
@@ -210,7 +210,7 @@ unplanned log number s reads retries is within same = record {
 
 now_at : (log : Log) (more : ReadList) (i : ℕ) (r : Row) → AreCurrent log more → slice_get more i ≡ Some r → r.1.0 ≡ get (last_state log) r.0
 now_at log [] i r now at = absurd (none-some r at)
-now_at log (x ∷ more) zero r now at = subst (λ (r : Row). r.1.0 ≡ get (last_state log) r.0) (same_Some x r at) now.0
+now_at log (x ∷ more) zero r now at = subst (λ (r : Row). r.1.0 ≡ get (last_state log) r.0) (same_Some x r at) now.0.0
 now_at log (x ∷ more) (suc i) r now at = now_at log more i r now.1 at
 
 past_front : (xs ys : ReadList) (i : ℕ) → length xs ≤ i → slice_get (xs ++ ys) i ≡ slice_get ys (i - length xs)
@@ -275,17 +275,6 @@ pub fits_as : (log : Log) (number : ℕ) (s : Shell) (looks : ReadList) (base : 
 fits_as log number s looks base l b is = subst (λ base. ReadsFit base (number, s.next) looks) (sym b) (subst (ReadsFit log.base (number, s.next)) (sym l) is.fit)
 
 -- one read more that stands there now
-AreNow-last : (log : Log) (reads : ReadList) (path : Path) (node : Option Node) (position : ℕ) → node ≡ get (last_state log) path → AreCurrent log reads → AreCurrent log (reads ++ (path, (node, position)) ∷ [])
-AreNow-last log [] path stood position there now = (there, tt)
-AreNow-last log (r ∷ reads) path stood position there now = (now.0, AreNow-last log reads path stood position there now.1)
-
-pub now_added : (log : Log) (old mid new : ReadList) (path : Path) (node : Option Node) (position : ℕ) → IsNowIn log old mid → new ≡ mid ++ (path, (node, position)) ∷ [] → node ≡ get (last_state log) path → IsNowIn log old new
-now_added log old mid new path node position was added there = record {
-  more = was.more ++ (path, (node, position)) ∷ [];
-  kept = added ∙ (ap (λ rs. rs ++ (path, (node, position)) ∷ []) was.kept ∙ append_assoc old was.more ((path, (node, position)) ∷ []));
-  now = AreNow-last log was.more path node position there was.now;
-}
-
 -- ---- a plan that still holds
 
 ready_since : (log : Log) (number : ℕ) (s : Shell) (p : Plan) (r : Row) → IsShell log number s → s.plan ≡ Some p → slice_get s.reads s.looked ≡ Some r → ((entry : ℕ) → p.made ≤ entry → Changes log.base log.order entry r.0 → ⊥) → HasReadyPlan log s

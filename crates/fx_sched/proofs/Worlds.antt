@@ -29,9 +29,6 @@ use Rattle.fx_machine.specs.Measure.{measure, IsLower}
 use Rattle.fx_machine.proofs.Lowering.{events_lower}
 use Rattle.fx_sched.proofs.Shells.{fresh_shell, longer_plan}
 
-abbrev Path : Type 0
-Path = List (List ℕ)
-
 abbrev pub shell_looks : Shell → List Look
 shell_looks s = looks_in (looked_in s)
 

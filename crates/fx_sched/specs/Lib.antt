@@ -1,6 +1,5 @@
 pub mod Left
 pub mod Moves
-pub mod Present
 pub mod Recorded
 pub mod Running
 pub mod Shells

@@ -2,7 +2,6 @@
 #![tactic(auto)]
 
 mod moves;
-mod present;
 mod room;
 mod schedule;
 mod shell;

@@ -4,10 +4,9 @@ ghost use Rattle.fx_spec.specs.Plans.{txn_of};
 ghost use Rattle.fx_sched.specs.Shells.{IsShell, HasReadyPlan, HasLooksOf};
 ghost use Rattle.fx_sched.specs.Moves.{Moved, retry_of};
 
-use crate::present::Present;
 use crate::shell::{Plan, Shell};
 use fx_base::NoMemory;
-use fx_board::{Board, Event, Settle};
+use fx_board::{Board, Event, Present, Settle};
 use fx_machine::{Attempt, Retries, Retry};
 use fx_store::Path;
 use fx_view::{Reads, Stop};
@@ -102,7 +101,7 @@ fn plan(alloc: Global, board: &Board, number: u32, shell: &mut Shell) -> Result<
         }
         Err(Stop::Needs(_)) => unreachable!(),
         Err(Stop::NoMemory) => {
-            shell.reads = present.reads;
+            shell.reads = present.into_reads();
             Err(NoMemory)
         }
     }

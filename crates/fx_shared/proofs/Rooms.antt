@@ -8,7 +8,6 @@ use Rattle.std.specs.List.Sorted.{IsStrictlySortedBy}
 use Rattle.std.proofs.Math.Seq.{take-suc}
 use Rattle.std.proofs.lemmas.List.{take_all}
 use Rattle.std.proofs.lemmas.List.Elements.{All-nil, All-head, All-tail, All-cons, All-push, All-weaker}
-use Rattle.fx_base.proofs.Names.{path_itself}
 use Rattle.fx_store.specs.declared.changes.Change.{Change}
 use Rattle.fx_store.specs.Changes.{IsChanges, changed_paths, change_at}
 use Rattle.fx_store.specs.Names.{path_cmp}
@@ -49,13 +48,6 @@ module _ (old new : VersionTable) (path : Path) (w : Listed) (updates : (q : Pat
   -- an empty list is new there
   pub inserted : list_in old path ≡ None → w.items ≡ [] → vec_len w + 1 ≤ vec_capacity w → IsRoomier old new
   inserted none items room = roomier (items ∙ sym (ap listed none)) (λ had. omega (arith, room))
-
-  -- what is pushed there is one version more
-  pub pushed : (v : Listed) (version : Version) → list_in old path ≡ Some v → w.items ≡ v.items ++ version ∷ [] → HasOneMore old new path version
-  pushed v version stood items = record {
-    here = ap listed (updates path ∙ ap (λ b. cond b (Some w) (list_in old path)) (path_itself path)) ∙ (items ∙ ap (λ vs. vs ++ version ∷ []) (sym (ap listed stood)));
-    others = λ other apart. updates other ∙ ap (λ b. cond b (Some w) (list_in old other)) apart;
-  }
 
 pub roomier_then : (old mid new : VersionTable) → IsRoomier old mid → IsRoomier mid new → IsRoomier old new
 roomier_then old mid new a b = record { same = λ q. b.same q ∙ a.same q; kept = λ q had. b.kept q (a.kept q had) }

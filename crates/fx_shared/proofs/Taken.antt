@@ -8,13 +8,13 @@ use Rattle.fx_spec.specs.Order.{BaseTree}
 use Rattle.fx_machine.specs.declared.attempt.Attempt.{Attempt}
 use Rattle.fx_board.specs.declared.board.Settle.{Settle}
 use Rattle.fx_board.specs.declared.board.Settled.{Settled}
-use Rattle.fx_board.specs.Board.{started, settled, RefusedAs}
+use Rattle.fx_board.specs.Board.{settled, RefusedAs}
 use Rattle.fx_board.specs.Log.{Log}
 use Rattle.fx_board.proofs.Refused.{left_as}
 use Rattle.fx_turn.specs.Histories.{Begins, own, count}
 use Rattle.fx_turn.specs.Places.{IsGiven}
 use Rattle.fx_turn.specs.Plays.{Fits}
-use Rattle.fx_turn.specs.Views.{maker_of, taking, giving}
+use Rattle.fx_turn.specs.Views.{taking, giving}
 use Rattle.fx_machine.specs.Machine.{next_number}
 use Rattle.fx_shared.specs.Passes.{LogView}
 use Rattle.fx_board.proofs.Counts.{count_own}
@@ -60,12 +60,6 @@ module _ {T : Type 0} (base : T → BaseTree) (history : T → List Turn) (shell
       inl (ordered new ∙ (ap (λ (l : Log). l.order) (left_as (log old) (log new) a s err) ∙ (sym (ordered old) ∙ sym (ap (λ (w : LogView). w.seen) e))))
 
   -- ---- what is begun, and closed
-
-  pub starts : (x : T) (b : BaseTree) → log x ≡ started b → history x ≡ []
-  starts x b e = ordered x ∙ ap (λ (l : Log). l.order) e
-
-  pub makes : (v : LogView) (x : T) (b : BaseTree) → log x ≡ started b → v ≡ maker_of (base x) → v ≡ maker_of b
-  makes v x b e made = made ∙ ap maker_of (begun x ∙ ap (λ (l : Log). l.base) e)
 
   pub closes_base : (v : LogView) (x : T) → v.base ≡ Some (base x) → v.base ≡ Some (log x).base
   closes_base v x e = e ∙ ap (λ b. Some b) (begun x)

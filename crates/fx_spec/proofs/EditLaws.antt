@@ -1,12 +1,12 @@
 -- Places have paths, and each edit that is not refused leaves a whole filestore whole.
-use Rattle.std.proofs.Common.{◌≡◌, ℕ, ◌<◌, get_or, nat_eq, suc, ◌+◌, ◌≤◌, Bool, true, false, cond, ◌||◌, ◌&&◌, refl, subst, sym, ◌∙◌, List, [], ◌∷◌, ◌++◌, map, length, Option, Some, None, Result, Ok, Err, nat_lt, nat_le, arith, bytes_eq, codes}
-use Rattle.std.proofs.lemmas.List.Elements.{All-nil, All-cons, All-append, All-head, All-tail}
+use Rattle.std.proofs.Common.{◌≡◌, ℕ, ◌<◌, get_or, nat_eq, suc, ◌+◌, ◌≤◌, Bool, true, false, cond, ◌&&◌, refl, subst, sym, ◌∙◌, List, [], ◌∷◌, ◌++◌, length, Option, Some, None, Result, Ok, Err, nat_lt, nat_le, arith}
+use Rattle.std.proofs.lemmas.List.Elements.{All-nil, All-cons, All-append}
 use Rattle.std.proofs.lemmas.Bool.{true≢false, ltb-true, ltb-false, leb-true, lt-ltb}
 use Rattle.std.specs.Cmp.Lexicographic.{pointwise}
 use Rattle.std.specs.List.{All, list_all, slice_split}
 use Rattle.std.specs.Option.{option_map, IfSome}
 use Rattle.std.proofs.lemmas.Option.{same_Some}
-use Rattle.fx_base.proofs.Booleans.{second_true, first_true, third_true}
+use Rattle.fx_base.proofs.Booleans.{second_true, first_true}
 use Rattle.fx_base.proofs.Orders.{texts_exact}
 use Rattle.fx_base.proofs.Lists.{all_pass}
 use Rattle.fx_store.specs.declared.node.Node.{Node}
@@ -17,13 +17,15 @@ use Rattle.fx_store.specs.declared.changes.Change.{Change}
 use Rattle.fx_store.specs.declared.name.PathFault.{PathFault}
 use Rattle.fx_store.specs.declared.name.PathFault.TheVariants.{BadName, TooDeep, NoMemory}
 use Rattle.fx_store.specs.Faults.{extended, path_of, read_link}
-use Rattle.fx_store.specs.Names.{is_slash, is_name, IsName, IsPath, IsNameSet, IsContent, IsLinkText, is_component, components, has_link_form}
+use Rattle.fx_store.specs.Names.{is_slash, is_name, IsName, IsPath, IsNameSet, IsContent, IsLinkText, components, has_link_form}
 use Rattle.fx_store.specs.Landings.{Resolves, arrived, stays, rises, lacks, enters, ends_at_file, stops_at_file, ends_at_link, follows, tires, IsTrueOf}
-use Rattle.fx_store.specs.Resolve.{Component, CurDir, ParentDir, Normal, component_of, components_of, names_only, absent, ◌/ₚ◌, is_full, resolve, lands}
+use Rattle.fx_store.specs.Resolve.{Component, CurDir, ParentDir, Normal, components_of, names_only, absent, ◌/ₚ◌, is_full, resolve, lands}
 use Rattle.fx_store.specs.Rule.{Ask, Answer, answer, ◌>>=◌}
 use Rattle.fx_store.specs.Whole.{Store, IsWhole, IsNode, lists, over}
 use Rattle.fx_store.proofs.Asks.{answer-bind}
 use Rattle.fx_store.proofs.Landings.{lands_by_the_rules, landings_are_true}
+use Rattle.fx_store.proofs.Components.{AreNamed, named_append, link_named, path_named}
+use Rattle.fx_store.proofs.WholeStores.{IsPath-root}
 use Rattle.fx_expr.specs.Bindings.{bind}
 use Rattle.fx_expr.specs.Eval.{Outcome, eval_of, text_in}
 use Rattle.fx_expr.specs.Sets.{IsAscending, set_of}
@@ -92,12 +94,9 @@ leads_to_path S Body p env (SpecTree.call args params s) at ok h =
     body_path p params s (arguments env args) at ok (sym (answer-behind S (argument_evals env args) (Answer (in_body p params s (arguments env args)))) ∙ h)
 leads_to_path S _ p env _ at ok e = cc
 
-root_path : IsPath []
-root_path = record { names = All-nil IsName; short = omega arith }
-
 pub places_have_paths : PlacesHavePaths
 unfolding place
-places_have_paths S root [] at e = subst (λ (a : PlaceTree). IsPath a.path) (same_Some (placed [] [] root) at e) root_path
+places_have_paths S root [] at e = subst (λ (a : PlaceTree). IsPath a.path) (same_Some (placed [] [] root) at e) IsPath-root
 places_have_paths S root (step ∷ above) at e =
     go (answer S (place root above)) (λ up f. places_have_paths S root above up f) refl (sym (answer-bind S (place root above) (with_some λ at. lead step at.path at.env at.spec)) ∙ e)
   where
@@ -111,25 +110,13 @@ abbrev AllNames : List (List ℕ) → Type 0
 AllNames [] = Unit {0}
 AllNames (n ∷ names) = IsName n × AllNames names
 
-abbrev AllNormal : List Component → Type 0
-AllNormal [] = Unit {0}
-AllNormal (CurDir ∷ rest) = AllNormal rest
-AllNormal (ParentDir ∷ rest) = AllNormal rest
-AllNormal (Normal n ∷ rest) = IsName n × AllNormal rest
-
 abbrev HasNames : Landing → Type 0
 HasNames (At q) = Unit {0}
 HasNames (Absent here names) = AllNames names
 HasNames (Blocked q) = Unit {0}
 HasNames TooManyLinks = Unit {0}
 
-all-normal-append : (a b : List Component) → AllNormal a → AllNormal b → AllNormal (a ++ b)
-all-normal-append [] b x y = y
-all-normal-append (CurDir ∷ a) b x y = all-normal-append a b x y
-all-normal-append (ParentDir ∷ a) b x y = all-normal-append a b x y
-all-normal-append (Normal n ∷ a) b x y = (x.0, all-normal-append a b x.1 y)
-
-names_only_are : (rest : List Component) (names : List (List ℕ)) → AllNormal rest → names_only rest ≡ Some names → AllNames names
+names_only_are : (rest : List Component) (names : List (List ℕ)) → AreNamed rest → names_only rest ≡ Some names → AllNames names
 names_only_are [] names ok e = subst AllNames (same_Some [] names e) tt
 names_only_are (CurDir ∷ rest) names ok e = cc
 names_only_are (ParentDir ∷ rest) names ok e = cc
@@ -139,38 +126,14 @@ names_only_are (Normal n ∷ rest) names ok e = at (names_only rest) refl e (λ 
     at None f e next = cc
     at (Some more) f e next = subst AllNames (same_Some (n ∷ more) names e) (ok.0, next more f)
 
-missing_names : (here : List (List ℕ)) (rest : List Component) → AllNormal rest → HasNames (absent here (names_only rest))
+missing_names : (here : List (List ℕ)) (rest : List Component) → AreNamed rest → HasNames (absent here (names_only rest))
 missing_names here rest ok = at (names_only rest) refl
   where
     at : (o : Option (List (List ℕ))) → names_only rest ≡ o → HasNames (absent here o)
     at None e = tt
     at (Some names) e = names_only_are rest names ok e
 
--- the components of a link text are names, or lead nowhere else
-component_normal : (c : List ℕ) (rest : List Component) → is_component c ≡ true → AllNormal rest → AllNormal (component_of c ∷ rest)
-component_normal c rest e ok = at (bytes_eq c (codes ".")) (bytes_eq c (codes "..")) refl refl
-  where
-    at : (a b : Bool) → bytes_eq c (codes ".") ≡ a → bytes_eq c (codes "..") ≡ b → AllNormal (cond a CurDir (cond b ParentDir (Normal c)) ∷ rest)
-    at true b f g = ok
-    at false true f g = ok
-    at false false f g = (plain (is_name c) refl, ok)
-      where
-        plain : (b : Bool) → is_name c ≡ b → is_name c ≡ true
-        plain true h = h
-        plain false h = absurd (true≢false (sym e ∙ (λ i. h i || f i || g i)))
-
-components_normal : (parts : List (List ℕ)) → list_all is_component parts ≡ true → AllNormal (map component_of parts)
-components_normal [] e = tt
-components_normal (c ∷ parts) e = at (is_component c) refl e (components_normal parts)
-  where
-    at : (b : Bool) → is_component c ≡ b → (b && list_all is_component parts) ≡ true → (list_all is_component parts ≡ true → AllNormal (map component_of parts)) → AllNormal (component_of c ∷ map component_of parts)
-    at true f h rest = component_normal c (map component_of parts) f (rest h)
-    at false f h rest = absurd (true≢false (sym h))
-
-link_normal : (text : List ℕ) → IsLinkText text → AllNormal (components_of text)
-link_normal text ok = components_normal (components text) (third_true (nat_lt 0 (length text)) (nat_le (length text) 4096) (list_all is_component (components text)) ok.form)
-
-resolved_names : (S : Store) → IsWhole S → (follow : Bool) {links : ℕ} {here : List (List ℕ)} {rest : List Component} {l : Landing} → Resolves S follow links here rest l → AllNormal rest → HasNames l
+resolved_names : (S : Store) → IsWhole S → (follow : Bool) {links : ℕ} {here : List (List ℕ)} {rest : List Component} {l : Landing} → Resolves S follow links here rest l → AreNamed rest → HasNames l
 resolved_names S whole follow arrived ok = tt
 resolved_names S whole follow (stays r) ok = resolved_names S whole follow r ok
 resolved_names S whole follow (rises r) ok = resolved_names S whole follow r ok
@@ -181,15 +144,11 @@ resolved_names S whole follow (stops_at_file e) ok = tt
 resolved_names S whole follow (ends_at_link e g) ok = tt
 resolved_names S whole follow (follows {here = here} {n} {text} {rest} e g r) ok =
     let link : IsLinkText text = subst (λ x. IfSome x (IsNode (here /ₚ n))) e (whole.nodes (here /ₚ n)) in
-    resolved_names S whole follow r (all-normal-append (components_of text) rest (link_normal text link) ok.1)
+    resolved_names S whole follow r (named_append (components_of text) rest (link_named text link) ok.1)
 resolved_names S whole follow (tires e g) ok = tt
 
-path_normal : (p : List (List ℕ)) → All IsName p → AllNormal (map Normal p)
-path_normal [] ok = tt
-path_normal (n ∷ p) ok = (All-head IsName n p ok, path_normal p (All-tail IsName n p ok))
-
 pub landing_names : (S : Store) → IsWhole S → (p : List (List ℕ)) (follow : Bool) → IsPath p → HasNames (lands S p follow)
-landing_names S whole p follow ok = resolved_names S whole follow ((lands_by_the_rules S whole p follow (lands S p follow)).1 refl) (path_normal p ok.names)
+landing_names S whole p follow ok = resolved_names S whole follow ((lands_by_the_rules S whole p follow (lands S p follow)).1 refl) (path_named p ok.names)
 
 all_names : (names : List (List ℕ)) → AllNames names → All IsName names
 all_names [] ok = All-nil IsName

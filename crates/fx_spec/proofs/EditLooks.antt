@@ -13,10 +13,11 @@ use Rattle.fx_store.specs.Rule.{Ask, Answer, Look, Tick, Known, Found, seen, if_
 use Rattle.fx_expr.specs.Sets.{set_of, with_text}
 use Rattle.fx_expr.specs.Tree.{Tree}
 use Rattle.fx_spec.specs.declared.refusal.Refusal.{Refusal}
-use Rattle.fx_spec.specs.Edit.{renewed, is_flag, set_to, removed, names_of, cleared, clear_levels, clear, entry, entries, new_names, lacks_room, unless_deep, replaced, made, make, is_too_deep, store_landed, stored_node, follows_last, store_at, bare_node, create_landed, create_at, last_name, without_name, remove_entry, remove_landed, remove_at}
+use Rattle.fx_spec.specs.Edit.{renewed, is_flag, set_to, removed, names_of, cleared, clear_levels, clear, entry, entries, new_names, lacks_room, unless_deep, replaced, made, make, is_too_deep, store_landed, stored_node, follows_last, store_at, bare_node, create_landed, create_at, last_name, remove_entry, remove_landed, remove_at}
 use Rattle.fx_spec.specs.EditLooks.{EditsLookAtChanges}
 use Rattle.fx_spec.specs.Move.{Answered, unrefused, needed}
 use Rattle.fx_spec.specs.Place.{PlaceTree}
+use Rattle.fx_base.specs.Sets.{without_name}
 
 abbrev Path : Type 0
 Path = List (List ℕ)

@@ -10,11 +10,12 @@ use Rattle.std.specs.Cmp.Lexicographic.{texts_ties}
 use Rattle.std.specs.Option.{IfSome}
 use Rattle.std.specs.Ordering.{eq_by_cmp}
 use Rattle.fx_base.proofs.Names.{name_is}
+use Rattle.fx_base.specs.Sets.{without_name}
 use Rattle.fx_store.specs.declared.node.Node.{Node}
 use Rattle.fx_store.specs.declared.node.Node.TheVariants.{File, Dir}
 use Rattle.fx_store.specs.declared.changes.Change.{Change}
-use Rattle.fx_store.specs.Names.{name_cmp, IsName, IsNameSet, has}
-use Rattle.fx_store.specs.Relisted.{relist_at, IsLeaf, CanRelist, rest_of, relisted}
+use Rattle.fx_store.specs.Names.{name_cmp, IsName, IsNameSet, has, rest_of}
+use Rattle.fx_store.specs.Relisted.{relist_at, IsLeaf, CanRelist, relisted}
 use Rattle.fx_store.specs.Resolve.{◌/ₚ◌, parent}
 use Rattle.fx_store.specs.Rule.{Ask, Answer, Look, answer, ◌>>=◌}
 use Rattle.fx_store.specs.Whole.{Store, IsWhole, IsNode, over}
@@ -23,7 +24,7 @@ use Rattle.fx_store.proofs.Landings.{listing_is_dir}
 use Rattle.fx_expr.specs.Sets.{IsAscending, set_of}
 use Rattle.fx_text.proofs.Canon.{ascending_set}
 use Rattle.fx_spec.specs.Move.{Answered}
-use Rattle.fx_spec.specs.Edit.{set_to, names_of, clear, entry, entries, new_names, last_name, without_name, remove_entry}
+use Rattle.fx_spec.specs.Edit.{set_to, names_of, clear, entry, entries, new_names, last_name, remove_entry}
 use Rattle.fx_spec.proofs.EditsWhole.{changes_of, Brings, relisting, IsWhole-brought, kept_target, made_target, made_away}
 use Rattle.fx_spec.proofs.EditsClear.{has-set_of, gone_target, gone_away}
 

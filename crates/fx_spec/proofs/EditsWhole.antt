@@ -10,9 +10,9 @@ use Rattle.fx_base.proofs.Results.{none_of}
 use Rattle.fx_store.specs.declared.node.Node.{Node}
 use Rattle.fx_store.specs.declared.node.Node.TheVariants.{Dir}
 use Rattle.fx_store.specs.declared.changes.Change.{Change}
-use Rattle.fx_store.specs.Names.{path_cmp, name_cmp, has}
+use Rattle.fx_store.specs.Names.{path_cmp, name_cmp, has, rest_of}
 use Rattle.fx_store.specs.Orders.{path_eq_same}
-use Rattle.fx_store.specs.Relisted.{rest_of, fresh_at, relist_at, IsLeaf, CanRelist}
+use Rattle.fx_store.specs.Relisted.{fresh_at, relist_at, IsLeaf, CanRelist}
 use Rattle.fx_store.specs.Resolve.{◌/ₚ◌}
 use Rattle.fx_store.specs.Whole.{Store, IsWhole, IsNode, lists, update, over}
 use Rattle.fx_store.proofs.Relisted.{IsWhole-relisted, has_old}
@@ -63,9 +63,6 @@ same_rest q a b e = same_some (sym (rest_append q a) ∙ ap (rest_of q) e ∙ re
 
 -- a node that is no directory is replaced by another
 module _ (S : Store) (q : List (List ℕ)) (old new : Node) (whole : IsWhole S) (there : S q ≡ Some old) (other : (names : List (List ℕ)) → old ≢ Dir names) (old_leaf : (n : List ℕ) → lists (Some old) n ≡ false) (leaf : IsLeaf q new) where
-  put : List Change
-  put = set_to q new ∷ []
-
   abbrev put_at : List (List ℕ) → Bool → Option Node
   put_at r b = cond b (Some new) (S r)
 

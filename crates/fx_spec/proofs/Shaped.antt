@@ -28,8 +28,6 @@ use Rattle.fx_spec.proofs.Behind.{answer-behind}
 use Rattle.fx_spec.specs.Shaped.{IsDescribed, DescribedHaveShapes, RootsHaveShapes, FetchedHaveShapes, IsDescribedPlace, PlacesAreDescribed, FetchesHaveShapes, WholesHaveShapes}
 use Rattle.fx_spec.proofs.Scoped.{bind_has}
 
--- ------------------------------------------------------------------------------------------------------------ bindings
-
 -- ------------------------------------------------------------------------------------------------- values of descriptions
 
 -- the value has the shape, where there is one

@@ -1,37 +1,19 @@
 -- What a task ends with, sets and consults depends on what it consulted alone.
 use Rattle.std.proofs.Common.{◌≡◌, ◌≢◌, ℕ, Bool, true, false, cond, not, refl, ap, subst, sym, ◌∙◌, List, [], ◌∷◌, ◌++◌, Option, Some, None}
 use mathlib.Core.Path.{fun_ext}
-use Rattle.std.specs.FinMap.{get, get-insert, get-remove, slice_cmp-IsAntisymmetric, nat_cmp-IsAntisymmetric, IsAntisymmetric}
-use Rattle.std.specs.Cmp.{IsTotalOrder}
-use Rattle.std.specs.Cmp.Lexicographic.{lists_total, nat_list_cmp_total}
+use Rattle.std.specs.FinMap.{get, get-insert, get-remove}
 use Rattle.std.specs.List.{filter}
-use Rattle.std.specs.Ordering.{eq_by_cmp, is_eq}
-use Rattle.std.specs.declared.cmp.Ordering.{Ordering}
-use Rattle.std.specs.declared.cmp.Ordering.TheVariants.{Less, Equal, Greater}
+use Rattle.std.specs.Ordering.{eq_by_cmp}
 use Rattle.fx_store.specs.declared.node.Node.{Node}
 use Rattle.fx_store.specs.declared.changes.Change.{Change}
 use Rattle.fx_store.specs.Names.{path_cmp}
 use Rattle.fx_store.specs.Rule.{SameOn}
 use Rattle.fx_store.specs.Whole.{Store, Nodes, update, over, set_node, over_nodes}
+use Rattle.fx_store.specs.Orders.{path_eq_same, path_total}
 use Rattle.fx_spec.specs.Task.{Task, Ends, Looks, Sets, result, after, consulted, written, once}
 use Rattle.fx_spec.specs.declared.refusal.End.{End}
 use Rattle.fx_spec.specs.Transaction.{flow_end, flow_outputs, is_done, end, kept, transaction}
 use Rattle.fx_spec.specs.Laws.{DependsOnWay, UndoneLeavesAll, LeavesAsData}
-
-path_cmp_total : IsTotalOrder path_cmp
-path_cmp_total = lists_total nat_list_cmp_total
-
--- paths that compare as equal are equal
-pub same_paths : IsAntisymmetric path_cmp
-same_paths = slice_cmp-IsAntisymmetric (slice_cmp-IsAntisymmetric nat_cmp-IsAntisymmetric)
-
-pub eq_paths : (p q : List (List ℕ)) → eq_by_cmp path_cmp p q ≡ true → p ≡ q
-eq_paths p q e = at (path_cmp p q) refl e
-  where
-    at : (r : Ordering) → path_cmp p q ≡ r → is_eq r ≡ true → p ≡ q
-    at Less f h = cc
-    at Equal f h = same_paths p q f
-    at Greater f h = cc
 
 -- the same at a path before and after the same changes
 pub same_over : (S T : Store) (cs : List Change) (p : List (List ℕ)) → S p ≡ T p → over S cs p ≡ over T cs p
@@ -81,7 +63,7 @@ same_on_filter S T p e [] h = tt
 same_on_filter S T p e (q ∷ ps) h = at (eq_by_cmp path_cmp p q) refl (λ k. same_on_filter S T p e ps k) h
   where
     at : (b : Bool) → eq_by_cmp path_cmp p q ≡ b → (SameOn (filter (λ q. not (eq_by_cmp path_cmp p q)) ps) S T → SameOn ps S T) → SameOn (cond (not b) (q ∷ filter (λ q. not (eq_by_cmp path_cmp p q)) ps) (filter (λ q. not (eq_by_cmp path_cmp p q)) ps)) S T → SameOn (q ∷ ps) S T
-    at true f rest h = (subst (λ q. S q ≡ T q) (eq_paths p q f) e, rest h)
+    at true f rest h = (subst (λ q. S q ≡ T q) (path_eq_same p q f) e, rest h)
     at false f rest h = (h.0, rest h.1)
 
 pub same_on_once : (S T : Store) (ps : List (List (List ℕ))) → SameOn (once ps) S T → SameOn ps S T
@@ -111,8 +93,8 @@ pub get-set_node : (m : Nodes) (c : Change) → get (set_node m c.path c.node) �
 get-set_node m c = at c.node refl
   where
     at : (n : Option Node) → c.node ≡ n → get (set_node m c.path n) ≡ update (get m) c
-    at None e = fun_ext (λ q. get-remove path_cmp_total m c.path q ∙ ap (λ n. cond (eq_by_cmp path_cmp q c.path) n (get m q)) (sym e))
-    at (Some n) e = fun_ext (λ q. get-insert path_cmp_total m c.path n q ∙ ap (λ n. cond (eq_by_cmp path_cmp q c.path) n (get m q)) (sym e))
+    at None e = fun_ext (λ q. get-remove path_total m c.path q ∙ ap (λ n. cond (eq_by_cmp path_cmp q c.path) n (get m q)) (sym e))
+    at (Some n) e = fun_ext (λ q. get-insert path_total m c.path n q ∙ ap (λ n. cond (eq_by_cmp path_cmp q c.path) n (get m q)) (sym e))
 
 pub get-over_nodes : (m : Nodes) (cs : List Change) → get (over_nodes m cs) ≡ over (get m) cs
 get-over_nodes m [] = refl

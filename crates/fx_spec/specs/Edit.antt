@@ -1,8 +1,8 @@
 -- What edits change, as rules that consult a filestore: an edit answers its changes in ascending order of path, or the first
 -- refusal that applies. It looks at each path that it may change before it answers.
-use Rattle.std.specs.Prelude.{ℕ, zero, suc, ◌+◌, ◌-◌, Bool, true, false, cond, not, ◌&&◌, List, [], ◌∷◌, ◌++◌, map, length, slice_index_or, nat_eq, nat_lt, nat_le, bytes_eq, Option, Some, None, Result, Ok, Err}
+use Rattle.std.specs.Prelude.{ℕ, zero, suc, ◌+◌, ◌-◌, Bool, true, false, cond, ◌&&◌, List, [], ◌∷◌, ◌++◌, map, length, slice_index_or, nat_eq, nat_lt, nat_le, Option, Some, None, Result, Ok, Err}
 use Rattle.std.specs.Cmp.Lexicographic.{pointwise}
-use Rattle.std.specs.List.{list_all, filter}
+use Rattle.std.specs.List.{list_all}
 use Rattle.fx_store.specs.declared.node.Node.{Node}
 use Rattle.fx_store.specs.declared.node.Node.TheVariants.{File, Dir, Link}
 use Rattle.fx_store.specs.declared.node.Landing.{Landing}
@@ -21,6 +21,7 @@ use Rattle.fx_spec.specs.declared.refusal.Refusal.{Refusal}
 use Rattle.fx_spec.specs.SpecTree.{SpecTree}
 use Rattle.fx_spec.specs.Move.{Answered, unrefused, needed}
 use Rattle.fx_spec.specs.Place.{PlaceTree}
+use Rattle.fx_base.specs.Sets.{without_name}
 
 -- the path has this node from now on, or none
 abbrev pub set_to : List (List ℕ) → Node → Change
@@ -178,9 +179,6 @@ create_at at = unrefused (λ node. resolve at.path false >>= create_landed at.pa
 -- the last name of a path
 abbrev pub last_name : List (List ℕ) → List ℕ
 last_name q = slice_index_or q (length q - 1) []
-
-abbrev pub without_name : List ℕ → List (List ℕ) → List (List ℕ)
-without_name n names = filter (λ m. not (bytes_eq n m)) names
 
 -- the entry and all below it go, and its name goes from the directory above; the root stays
 abbrev pub remove_entry : List (List ℕ) → Ask (Answered (List Change))

@@ -101,12 +101,6 @@ module _ {R L : Type 0} (m : Meaning R) (p : List (List ℕ)) (env : Bindings) (
       leads = tt;
     })
 
-    pub entry_memory : (there : Bool) (r : Result Entry Halt) → IsErrAnd r (λ h. h ≡ halt.Stopped stop.NoMemory) → There (Ok there) → EntersInside r
-    entry_memory there r is h = subst EntersInside (sym (err_of r (halt.Stopped stop.NoMemory) is)) (record {
-      follows = λ a. then_refused (exists p) (then_inside a) (Err stop.NoMemory) refl h;
-      leads = tt;
-    })
-
     pub entry_lacks : (there : Bool) → there ≡ false → There (Ok there) → EntersInside (Err (halt.Refused Refusal.Lacks))
     entry_lacks there gone h = record {
       follows = λ a. then_answers (exists p) (then_inside a) (Err Refusal.Lacks) h (ap (then_inside a) gone);

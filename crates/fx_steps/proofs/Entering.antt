@@ -138,9 +138,6 @@ module _ (p : List (List ℕ)) (env : Bindings) (args : List ExprTree) (params :
         at (halt.Stopped stop.NoMemory) says = record { tells = λ a. record { says = tt; most = behind_most (in_its_body a) }; leads = λ known own. tt }
         at (halt.Stopped (stop.Needs q)) says = absurd says
 
-    pub body_memory : (r : Result Entry Halt) → IsErrAnd r (λ h. h ≡ halt.Stopped stop.NoMemory) → EntersBody r
-    body_memory r none = body_err (halt.Stopped stop.NoMemory) r none tt
-
   -- at a call inside 64 others
   abbrev EntersLast : Result Entry Halt → Type 0
   EntersLast r = EntersAt (λ a. go_into a p env (SpecTree.last args params)) p env (SpecTree.last args params) was now r

@@ -1,6 +1,6 @@
 -- Where the steps lead, form by form.
 use Rattle.fx_steps.proofs.Prelude.{◌≡◌, ℕ, ◌+◌, ◌-◌, ◌≤◌, true, List, [], ◌∷◌, ◌++◌, length, take, Option, Some, None, Result, Ok, Err, refl, sym, ap, ◌∙◌, subst, arith, length-append, IsErrAnd, bind, Outcome, eval_of, names_in, ExprTree}
-use Rattle.fx_steps.proofs.Prelude.{has_text, ShapeTree, Tree, tree_of, Refusal, Bindings, focus_path, arguments, argument_evals, Answered, Step, First, Down, Body, Elem, PlaceTree, placed, where_true, has_element, at_path, in_body, lead}
+use Rattle.fx_steps.proofs.Prelude.{has_text, ShapeTree, Tree, tree_of, Refusal, Bindings, arguments, argument_evals, Answered, Step, First, Body, Elem, PlaceTree, placed, where_true, has_element, in_body, lead}
 use Rattle.fx_steps.proofs.Prelude.{SpecTree, Stop, err_of, Halt, answered, split, Spot, around, HasSet, IsNoCall, grown, bound_name, caller_in, spot_place, IsSpot, LeadsAt, BindsText, BindsNames, costs, Says, set_answer, names_answer, given}
 use Rattle.fx_steps.proofs.Prelude.{inner_names}
 use Rattle.std.proofs.Math.Seq.{take-append_seam}
@@ -62,20 +62,6 @@ module _ (p : List (List ℕ)) (env : Bindings) where
         tells = record { says = λ i. Some (Some (placed (sym path i) (grown env (sym bound i)) a)); most = omega arith };
         spot = record { held = tt; back = ap (grown env) bound };
       })
-
-  -- ---- the paths of focuses
-
-  module _ (s : SpecTree) (e : ExprTree) (d : SpecTree) (is : s ≡ SpecTree.focus e d) (was now : ℕ) (one : now ≡ was + 1) where
-    pub down_leads : (q : List (List ℕ)) (spot : Spot) → focus_path p (eval_of env e) ≡ Ok q → spot.path ≡ q → spot.bound ≡ bounds.Nothing → LeadsAt Down p env s was now (Ok (Some spot))
-    down_leads q spot formed path bound =
-        subst (λ s. LeadsAt Down p env s was now (Ok (Some spot))) (sym is)
-        (record {
-          tells = record {
-            says = ap (λ q. Some (at_path env d q)) formed ∙ (λ i. Some (Some (placed (sym path i) (grown env (sym bound i)) d)));
-            most = omega (arith, one);
-          };
-          spot = record { held = tt; back = ap (grown env) bound };
-        })
 
   -- ---- bodies
 

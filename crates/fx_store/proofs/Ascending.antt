@@ -2,7 +2,6 @@
 use Rattle.std.proofs.Common.{◌≡◌, ℕ, zero, suc, ◌+◌, ◌-◌, Bool, true, false, List, [], ◌∷◌, ◌++◌, length, Result, Ok, Err, is_ok, Some, None, slice_get, sym, refl, ap, ◌∙◌, inl, inr, arith}
 use Rattle.std.specs.declared.cmp.Ordering.{Ordering}
 use Rattle.std.specs.declared.cmp.Ordering.TheVariants.{Less, Equal, Greater}
-use Rattle.std.specs.List.{AllByRecursion}
 use Rattle.std.specs.List.Sorted.{IsStrictlySortedBy, IsSearchInRange, IsBinarySearchResult}
 use Rattle.std.specs.Ordering.{eq_by_cmp, is_eq, is_lt, ordering_reverse}
 use Rattle.std.specs.Cmp.{IsTotalOrder, tied_back}
@@ -19,11 +18,6 @@ less_is : (r : Ordering) → r ≡ Less → is_lt r ≡ true
 less_is r e = ap is_lt e
 
 module _ {K : Type 0} {R : K → K → Ordering} (o : IsTotalOrder R) where
-  -- a key below the first of an ascending list is below all of it
-  below_rest : (k : K) (l : K) (ks : List K) → R k l ≡ Less → AllByRecursion (λ y. R l y ≡ Less) ks → AllByRecursion (λ y. R k y ≡ Less) ks
-  below_rest k l [] e all = tt
-  below_rest k l (m ∷ ks) e all = (o.trans k l m e all.0, below_rest k l ks e all.1)
-
   -- one more key at the end, which is above the last
   pub ascending-push : (ks : List K) (k : K) → IsStrictlySortedBy R ks → is_above R ks k ≡ true → IsStrictlySortedBy R (ks ++ k ∷ [])
   unfolding IsStrictlySortedBy

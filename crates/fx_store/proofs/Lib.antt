@@ -15,3 +15,4 @@ pub mod SpellingLaws
 pub mod Crosses
 pub mod PathLists
 pub mod Passing
+pub mod Components

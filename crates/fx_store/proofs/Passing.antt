@@ -1,5 +1,5 @@
 -- What passing the names of one path at the front of another says of the two.
-use Rattle.std.proofs.Common.{◌≡◌, ◌≢◌, ◌==◌, ◌&&◌, suc, ◌+◌, Bool, true, false, IsTrue, List, [], ◌∷◌, ◌++◌, length, take, drop, ℕ, refl, ap, sym, ◌∙◌, arith, length-append}
+use Rattle.std.proofs.Common.{◌≡◌, ◌≢◌, ◌==◌, ◌&&◌, suc, ◌+◌, Bool, true, false, IsTrue, IsFalse, is_some, List, [], ◌∷◌, ◌++◌, length, take, drop, ℕ, refl, ap, sym, ◌∙◌, arith, length-append}
 use Rattle.std.specs.Prelude.{bytes_eq}
 use Rattle.std.specs.Cmp.Lexicographic.{pointwise, lists_ties, texts_ties}
 use Rattle.std.specs.Ordering.{eq_by_cmp}
@@ -9,8 +9,10 @@ use Rattle.std.proofs.lemmas.Cmp.{eq_by_cmp_equiv}
 use Rattle.std.proofs.lemmas.List.{append_assoc, append-nil, append_cancel_left, take-append-drop}
 use Rattle.std.proofs.Math.Seq.{take-append-add}
 use Rattle.fx_base.proofs.Names.{name_itself}
-use Rattle.fx_store.specs.Names.{name_cmp, path_cmp}
+use Rattle.fx_base.proofs.Results.{none_if_never}
+use Rattle.fx_store.specs.Names.{name_cmp, path_cmp, rest_of}
 use Rattle.fx_store.specs.Orders.{path_total, path_eq_same, name_eq_same}
+use Rattle.fx_store.proofs.PathLists.{rest_append, rest_is}
 
 path_itself : (p : List (List ℕ)) → eq_by_cmp path_cmp p p ≡ true
 path_itself p = (eq_by_cmp_equiv path_total).refl p
@@ -39,6 +41,11 @@ unlike a b differ = at (eq_by_cmp path_cmp a b) refl
     at : (t : Bool) → eq_by_cmp path_cmp a b ≡ t → false ≡ t
     at false e = refl
     at true e = absurd (differ (ap length (path_eq_same a b e)))
+
+-- a path begins with another exactly if all of that were passed
+pub begins_with : (a b rest : List (List ℕ)) (yes : Bool) → (IsTrue yes → a ≡ b ++ rest) → (IsFalse yes → (r : List (List ℕ)) → a ≢ b ++ r) → yes ≡ is_some (rest_of b a)
+begins_with a b rest true passed none = sym (ap is_some (ap (rest_of b) (passed refl) ∙ rest_append b rest))
+begins_with a b rest false passed none = sym (ap is_some (none_if_never (rest_of b a) (λ r is. none refl r (rest_is b a r is))))
 
 -- a way's first names, where some of them and a next one are known
 along : (names way rest : List (List ℕ)) (next : List ℕ) → way ≡ names ++ next ∷ rest → take (suc (length names)) way ≡ names ++ next ∷ []

@@ -15,8 +15,7 @@ use Rattle.fx_base.proofs.TextBytes.{utf8_bytes}
 use Rattle.fx_text.specs.Sets.{has_text}
 use Rattle.fx_store.specs.declared.name.PathFault.TheVariants.{TooDeep}
 use Rattle.fx_store.specs.Faults.{read_path}
-use Rattle.fx_store.specs.Names.{name_cmp, path_cmp, is_name, IsName, IsPath, has, path_text}
-use Rattle.fx_store.specs.Relisted.{rest_of}
+use Rattle.fx_store.specs.Names.{name_cmp, path_cmp, is_name, IsName, IsPath, has, path_text, rest_of}
 use Rattle.fx_store.specs.Resolve.{◌/ₚ◌}
 use Rattle.fx_store.proofs.SpellingLaws.{path_texts_read}
 

@@ -9,10 +9,10 @@ use Rattle.std.specs.List.{All}
 use Rattle.fx_base.proofs.Names.{name_is}
 use Rattle.fx_store.specs.declared.node.Node.{Node}
 use Rattle.fx_store.specs.declared.node.Node.TheVariants.{Dir}
-use Rattle.fx_store.specs.Names.{name_cmp, IsName, IsPath, has}
+use Rattle.fx_store.specs.Names.{name_cmp, IsName, IsPath, has, rest_of}
 use Rattle.fx_store.specs.Whole.{Store, IsWhole, IsNode, lists}
 use Rattle.fx_store.specs.Resolve.{◌/ₚ◌}
-use Rattle.fx_store.specs.Relisted.{rest_of, fresh_at, relist_at, relisted, CanRelist}
+use Rattle.fx_store.specs.Relisted.{fresh_at, relist_at, relisted, CanRelist}
 use Rattle.fx_store.proofs.PathLists.{rest_append, rest_is, path_below}
 
 pub rest_more : (q p t : List (List ℕ)) (n : List ℕ) → rest_of q p ≡ Some t → rest_of q (p /ₚ n) ≡ Some (t /ₚ n)

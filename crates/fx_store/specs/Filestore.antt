@@ -18,7 +18,7 @@ pub record Table : Type 0 where
   pub nodes : Nodes
   pub places : List (List (List ℕ))
 
-abbrev path_code : Coded (List (List ℕ))
+abbrev pub path_code : Coded (List (List ℕ))
 path_code = coded_list (coded_list coded_ℕ)
 
 abbrev pub table_code : Coded Table

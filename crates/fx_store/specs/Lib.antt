@@ -12,3 +12,4 @@ pub mod Resolve
 pub mod Rule
 pub mod Spelling
 pub mod Whole
+pub mod Kinds

@@ -1,5 +1,5 @@
 -- Names, link texts and paths: lists of bytes, and lists of names from the root on.
-use Rattle.std.specs.Prelude.{◌≡◌, ℕ, ◌≤◌, ◌<◌, Bool, true, false, cond, not, ◌&&◌, ◌||◌, List, [], ◌∷◌, length, nat_lt, nat_le, ◌==◌, IsTrue, All, codes, bytes_eq}
+use Rattle.std.specs.Prelude.{◌≡◌, ℕ, ◌≤◌, ◌<◌, Bool, true, false, cond, not, ◌&&◌, ◌||◌, List, [], ◌∷◌, length, nat_lt, nat_le, ◌==◌, IsTrue, All, codes, bytes_eq, Option, Some, None}
 use Rattle.std.specs.declared.cmp.Ordering.{Ordering}
 use Rattle.std.specs.Ordering.{nat_cmp, eq_by_cmp, is_lt}
 use Rattle.std.specs.Cmp.Lexicographic.{slice_cmp}
@@ -80,6 +80,12 @@ has_path paths path = is_in path_cmp paths path
 abbrev pub path_text : List (List ℕ) → List ℕ
 path_text [] = 47 ∷ []
 path_text (name ∷ names) = flat_map (λ n. 47 ∷ n) (name ∷ names)
+
+-- the rest of a path behind another, if it begins with that
+abbrev pub rest_of : List (List ℕ) → List (List ℕ) → Option (List (List ℕ))
+rest_of [] r = Some r
+rest_of (a ∷ q) [] = None
+rest_of (a ∷ q) (b ∷ r) = cond (eq_by_cmp name_cmp a b) (rest_of q r) None
 
 -- whether a link text starts at the root
 abbrev pub is_absolute : List ℕ → Bool

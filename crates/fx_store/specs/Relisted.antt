@@ -1,18 +1,11 @@
 -- A directory that lists other names: new entries are nodes that list nothing, and dropped ones go with all below them.
 use Rattle.std.specs.Prelude.{◌≡◌, ℕ, true, false, cond, List, [], ◌∷◌, length, Option, Some, None}
-use Rattle.std.specs.Ordering.{eq_by_cmp}
 use Rattle.fx_store.specs.declared.node.Node.{Node}
 use Rattle.fx_store.specs.declared.node.Node.TheVariants.{Dir}
 use Rattle.fx_store.specs.declared.limits.TheConstants.{MAX_PATH_NAMES}
-use Rattle.fx_store.specs.Names.{name_cmp, IsNameSet, has}
+use Rattle.fx_store.specs.Names.{IsNameSet, has, rest_of}
 use Rattle.fx_store.specs.Whole.{Store, IsWhole, IsNode, lists}
 use Rattle.fx_store.specs.Resolve.{◌/ₚ◌}
-
--- the rest of a path behind another, if it begins with that
-abbrev pub rest_of : List (List ℕ) → List (List ℕ) → Option (List (List ℕ))
-rest_of [] r = Some r
-rest_of (a ∷ q) [] = None
-rest_of (a ∷ q) (b ∷ r) = cond (eq_by_cmp name_cmp a b) (rest_of q r) None
 
 -- a fresh entry is there, and nothing below it
 abbrev pub fresh_at : Node → List (List ℕ) → Option Node

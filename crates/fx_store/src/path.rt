@@ -1,12 +1,12 @@
 //! Paths, as lists of names from the root on.
-ghost use Rattle.std.specs.Prelude.{◌≡◌, ◌==◌, ◌-◌, ◌<◌, ℕ, List, [], ◌∷◌, ◌++◌, take, suc, length, IfOk, IsTrue, IsFalse, ◌≢◌, ◌↔◌, slice_get, option_copied, bytes_eq, refl};
+ghost use Rattle.std.specs.Prelude.{◌≡◌, ◌==◌, ◌-◌, ◌<◌, ℕ, List, [], ◌∷◌, ◌++◌, take, suc, length, IfOk, IsTrue, IsFalse, is_some, ◌≢◌, ◌↔◌, slice_get, option_copied, bytes_eq, refl};
 ghost use Rattle.std.specs.Cmp.Lexicographic.{pointwise};
 ghost use Rattle.std.specs.Iterator.{YieldsFirstRef, item_count};
 ghost use Rattle.std.specs.Cmp.{partial_equiv_from_equiv, partial_order_from_total, eq_by_cmp_equiv};
 ghost use Rattle.std.specs.Ordering.{as_partial_cmp, eq_by_cmp};
 ghost use Rattle.std.specs.List.{flat_map};
 ghost use Rattle.std.proofs.Common.{ap};
-ghost use Rattle.fx_store.specs.Names.{IsPath, path_cmp};
+ghost use Rattle.fx_store.specs.Names.{IsPath, path_cmp, rest_of};
 ghost use Rattle.std.specs.Arc.{arc_slice_items};
 ghost use Rattle.fx_store.specs.HeldNames.{held_names};
 ghost use Rattle.fx_store.specs.Orders.{path_total, path_eq_same};
@@ -191,6 +191,13 @@ impl Path {
         Ok(Path {
             held: from_names(names)?,
         })
+    }
+
+    /// Whether the path begins with all the names of another, at which or below which it is then.
+    pub fn starts_with(&self, other: &Path) -> bool
+        ensures { result ≡ is_some (rest_of other.now self.now) }
+    {
+        self.iter().passes(&other.iter())
     }
 
     /// How the paths are ordered: by their first names that differ, and else the shorter one first.

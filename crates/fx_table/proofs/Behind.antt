@@ -1,5 +1,5 @@
 -- What stands below a directory stands behind it, one after another.
-use Rattle.fx_table.proofs.Prelude.{◌≡◌, ℕ, zero, suc, ◌+◌, ◌<◌, true, false, List, [], ◌∷◌, ◌++◌, length, get_or, Option, Some, None, is_some, refl, sym, ◌∙◌, ap, arith, length-append, slice_get, keys_of, Parts, name_in, name_in_folder, name_in_pushed, Change, none_if_never, not_some, some_of, rest_append, rest_is, rest_of, mapped_of}
+use Rattle.fx_table.proofs.Prelude.{◌≡◌, ℕ, zero, suc, ◌+◌, ◌<◌, true, List, [], ◌∷◌, ◌++◌, length, get_or, Some, None, is_some, refl, ◌∙◌, ap, arith, length-append, slice_get, keys_of, Parts, name_in, name_in_folder, name_in_pushed, Change, none_if_never, not_some, some_of, rest_append, rest_is, rest_of, mapped_of}
 
 -- ---- a path that is not below a directory
 
@@ -7,13 +7,6 @@ pub none_named : (p r : Parts) → rest_of p r ≡ None → name_in p r ≡ None
 none_named p r none = none_if_never (name_in p r) (λ n is. not_some (rest_of p r) (n ∷ []) none (ap (rest_of p) (name_in_folder p r n is) ∙ rest_append p (n ∷ [])))
 
 -- ---- a path below a directory
-
-pub short_rest : (p q : Parts) → length q < length p → false ≡ is_some (rest_of p q)
-short_rest p q short = by (rest_of p q) refl
-  where
-    by : (o : Option Parts) → rest_of p q ≡ o → false ≡ is_some (rest_of p q)
-    by None is = ap is_some (sym is)
-    by (Some r) is = absurd (omega (arith, ap length (rest_is p q r is), length-append p r))
 
 last_of : (p r : Parts) (n : List ℕ) → length r ≡ 1 → Some n ≡ slice_get (p ++ r) (length p) → r ≡ n ∷ []
 last_of [] [] n one is = absurd (omega arith)

@@ -1,12 +1,12 @@
 -- What the lines of a table say is set among files and directories: flags, which leave all else as it is, and links.
-use Rattle.fx_table.proofs.Prelude.{◌≡◌, ℕ, zero, suc, ◌+◌, ◌<◌, Bool, true, false, cond, T, List, [], ◌∷◌, ◌++◌, map, take, drop, length, get_or, arith, Option, Some, None, is_some, IfSome, IsTrue, All, refl, sym, ◌∙◌, ap, subst, unwrap_or, Less, eq_by_cmp, AllByRecursion, cons_option, slice_get, slice_set, IsStrictlySortedBy, keys_of, find, is_sorted, same_Some, All-nil, All-cons, All-head, All-tail, or_right, or_left, strictly_sorted, sorted_test, Node, File, Dir, Link, Change, change_at, path_cmp, path_eq_same, Store, Mark, Target, Executable, TableLine, TableLink, is_flag_mark, has_flags, is_dir, has_place, links_among, link_in_line, flag_at, IsLine, IsLink, AreLinesOver, link_change, links_in, mark_node, line_change, mark_in, lines_in, Mapped, with_flag, with_flags, with_lines, mapped_of, IsNodeBounded, IsOfBytes, AreOfBytes, IsTreeShaped, change_of, changes_of, over, is_flagged, flagged_at, with_exec, flag_change, links_alone, MakeLinks, CanMerge, Parts}
+use Rattle.fx_table.proofs.Prelude.{◌≡◌, ℕ, zero, suc, ◌+◌, ◌<◌, Bool, true, false, cond, T, List, [], ◌∷◌, ◌++◌, map, take, drop, length, get_or, arith, Option, Some, None, is_some, IfSome, IsTrue, All, refl, sym, ◌∙◌, ap, subst, unwrap_or, Less, eq_by_cmp, AllByRecursion, cons_option, slice_get, slice_set, IsStrictlySortedBy, keys_of, find, is_sorted, same_Some, All-nil, All-cons, All-head, All-tail, or_right, or_left, strictly_sorted, sorted_test, Node, File, Dir, Link, Change, change_at, path_cmp, path_eq_same, Store, Mark, Target, Executable, TableLine, TableLink, is_flag_mark, has_flags, is_dir, has_place, links_among, link_in_line, flag_at, IsLine, IsLink, AreLinesOver, link_change, links_in, mark_node, line_change, mark_in, lines_in, Mapped, with_flag, with_flags, with_lines, mapped_of, IsNodeBounded, IsOfBytes, AreOfBytes, IsTreeShaped, change_of, changes_of, over, is_executable, flagged_at, with_exec, flag_change, links_alone, MakeLinks, CanMerge, Parts}
 use Rattle.fx_table.proofs.Linking.{IsLinked, CanStand, links_made, apart_from}
 use Rattle.fx_table.proofs.Mixing.{made_links}
 use Rattle.fx_table.proofs.Shapes.{found}
 
 -- ---- which files are executable
 
-marked : (mark : Mark) → is_flagged (Some (mark_node mark)) ≡ is_flag_mark mark
+marked : (mark : Mark) → is_executable (Some (mark_node mark)) ≡ is_flag_mark mark
 marked (Target text) = refl
 marked Executable = refl
 
@@ -14,7 +14,7 @@ flags_found : (lines : List TableLine) (q : Parts) → flagged_at (map line_chan
 flags_found [] q = refl
 flags_found (l ∷ lines) q = by (eq_by_cmp path_cmp q l.path) (flags_found lines q)
   where
-    by : (b : Bool) → flagged_at (map line_change lines) q ≡ flag_at lines q → is_flagged (unwrap_or (cond b (Some (Some (mark_node l.mark))) (change_at (map line_change lines) q)) None) ≡ cond b (is_flag_mark l.mark) (flag_at lines q)
+    by : (b : Bool) → flagged_at (map line_change lines) q ≡ flag_at lines q → is_executable (unwrap_or (cond b (Some (Some (mark_node l.mark))) (change_at (map line_change lines) q)) None) ≡ cond b (is_flag_mark l.mark) (flag_at lines q)
     by true rest = marked l.mark
     by false rest = rest
 

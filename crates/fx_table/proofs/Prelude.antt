@@ -17,7 +17,8 @@ pub use Rattle.fx_store.proofs.WholeStores.{bare, get-root_only}
 pub use Rattle.fx_store.specs.Changes.{IsChanges, change_at, changed_paths}
 pub use Rattle.fx_store.specs.Faults.{read_link, read_path}
 pub use Rattle.fx_store.specs.Filestore.{root_only}
-pub use Rattle.fx_store.specs.Names.{IsLinkText, IsName, IsNameSet, IsPath, components, has, has_link_form, is_above, name_cmp, path_cmp, path_text}
+pub use Rattle.fx_store.specs.Kinds.{is_dir, is_executable, is_file}
+pub use Rattle.fx_store.specs.Names.{IsLinkText, IsName, IsNameSet, IsPath, components, has, has_link_form, is_above, name_cmp, path_cmp, path_text, rest_of}
 unfoldable pub use Rattle.fx_store.specs.Names.{is_name}
 pub use Rattle.fx_store.specs.Orders.{path_eq_same, path_same, path_total}
 pub use Rattle.fx_store.specs.Resolve.{parent}
@@ -28,20 +29,19 @@ pub use Rattle.fx_store.specs.declared.name.PathFault.{PathFault}
 pub use Rattle.fx_store.specs.declared.name.PathFault.TheVariants.{TooDeep}
 pub use Rattle.fx_store.specs.declared.node.Node.{Node}
 pub use Rattle.fx_store.specs.declared.node.Node.TheVariants.{Dir, File, Link}
-pub use Rattle.fx_table.specs.Flags.{flag_change, flagged_at, is_flagged, links_alone, with_exec}
+pub use Rattle.fx_table.specs.Flags.{flag_change, flagged_at, links_alone, with_exec}
 pub use Rattle.fx_table.specs.Lines.{AreLines, BodyCause, CanFollow, IsCut, IsNextLine, IsStopped, LinesCause, ReadsAll, ReadsBody, ReadsNext, StopsNext, TakesRoom, as_line, is_over_by, line_change, line_in, lines_in, link_bytes, link_change, link_in, links_in, mark_in, mark_node, standing_by}
 pub use Rattle.fx_table.specs.Linked.{Keeps, MakesTable, TableCause, changed_flag, differs, emptied_node, kept_change, kept_of, linked_nodes}
 pub use Rattle.fx_table.specs.Listed.{Mapped, listed, names_below, with_flag, with_flags, with_lines, with_links, with_names}
 pub use Rattle.fx_table.specs.Lists.{HasChildAdded, HasNoFolder, IsAddedAt, IsFolderAt, items_of}
 pub use Rattle.fx_table.specs.Mapped.{mapped_of, node_or_dir}
 pub use Rattle.fx_table.specs.Merges.{CanMerge, MakeLinks, MakesLink, MovesAll, MovesLinks, StopsAt, pending}
-pub use Rattle.fx_table.specs.Places.{rest_of}
 pub use Rattle.fx_table.specs.Remaining.{AreLevels, EntersDirectory, IsLeftBelow, IsLevel, IsNextPath, TakesEntry, TakesPath, from_names, from_path, left_of, names_in}
 pub use Rattle.fx_table.specs.Shaped.{AreOfBytes, AreShaped, HaveNameSets, IsNodeBounded, IsOfBytes, IsTreeShaped, ListsAt, change_of, changes_of}
-pub use Rattle.fx_table.specs.Table.{AreLinesOver, Executable, IsLine, IsLink, IsMark, IsTable, IsTableBehind, Mark, Setting, TableLine, TableLink, Target, body_of, can_mark, can_stand, first_number, flag_at, flag_by, has_flags, has_place, is_dir, is_feed, is_file, is_flag_mark, is_second, is_space, lacks_flags, line_at, line_of, lines_of, lines_text, link_by, link_in_line, links_among, mark_text, next_line, over, read_body, read_from, read_line, read_lines, read_of, read_on, read_parts, read_table, setting_of, table_text, unless_lacking, version_line, with_first}
+pub use Rattle.fx_table.specs.Table.{AreLinesOver, Executable, IsLine, IsLink, IsMark, IsTable, IsTableBehind, Mark, Setting, TableLine, TableLink, Target, body_of, can_mark, can_stand, first_number, flag_at, flag_by, has_flags, has_place, is_feed, is_flag_mark, is_second, is_space, lacks_flags, line_at, line_of, lines_of, lines_text, link_by, link_in_line, links_among, mark_text, next_line, over, read_body, read_from, read_line, read_lines, read_of, read_on, read_parts, read_table, setting_of, table_text, unless_lacking, version_line, with_first}
 pub use Rattle.fx_table.specs.TableLaws.{IsFirstBadLine, IsFirstBadOf, SpellsTable, but_no_link, unlinked}
 pub use Rattle.fx_table.specs.TableSpelling.{byte_before, escaped, is_plain_byte, plain_byte, spelled, spelling, unspelled, upper_digit_value}
-pub use Rattle.fx_table.specs.Texts.{AddsLine, flag_of_node, flags_so_far, line_text_at, lines_so_far}
+pub use Rattle.fx_table.specs.Texts.{AddsLine, flags_so_far, line_text_at, lines_so_far}
 pub use Rattle.fx_table.specs.Unspells.{SpellsByte}
 pub use Rattle.fx_table.specs.declared.descent.Entry.{Entry}
 pub use Rattle.fx_table.specs.declared.descent.Level.{Level}

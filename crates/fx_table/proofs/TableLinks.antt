@@ -1,5 +1,7 @@
 -- The lines of a whole filestore are a table over the rest of it.
-use Rattle.fx_table.proofs.Prelude.{strictly_sorted, Parts, root_first, IsPath, path_cmp, path_total, parent, IsNode, IsWhole, Nodes, Store, lists, Node, Dir, File, Link, Executable, IsLine, IsMark, IsTable, TableLine, Target, can_stand, has_place, is_dir, is_file, line_at, lines_of, over, but_no_link, unlinked, All, Bool, IfSome, IsSome, IsTrue, List, None, Option, Some, [], ap, arith, cond, false, get_or, is_some, length, map, refl, subst, suc, sym, take, true, ℕ, ◌++◌, ◌-◌, ◌<◌, ◌∙◌, ◌∷◌, ◌≡◌, take-length, take-suc, false≢true, All-cons, All-nil, eq_by_cmp_equiv, entries, entries_sorted, find, get, get-entries, AllByRecursion, filter_map, IsStrictlySortedBy, keys_of, eq_by_cmp, is_eq, ordering_reverse, Ordering, Less}
+use Rattle.fx_table.proofs.Prelude.{strictly_sorted, Parts, root_first, IsPath, path_cmp, path_total, parent, IsNode, IsWhole, Nodes, Store, lists, Node, Dir, File, Link, Executable, IsLine, IsMark, IsTable, TableLine, Target, can_stand, has_place, is_dir, is_file, lines_of, over, but_no_link, unlinked, All, Bool, IfSome, IsSome, IsTrue, List, None, Option, Some, [], ap, arith, cond, false, get_or, is_some, length, refl, subst, suc, sym, take, true, ℕ, ◌++◌, ◌-◌, ◌<◌, ◌∙◌, ◌∷◌, ◌≡◌, take-length, take-suc, false≢true, All-cons, All-nil, eq_by_cmp_equiv, entries, entries_sorted, find, get, get-entries, AllByRecursion, IsStrictlySortedBy, keys_of, eq_by_cmp, is_eq, ordering_reverse, Ordering, Less}
+use Rattle.fx_table.proofs.TableLines.{paths_of}
+use Rattle.fx_table.proofs.TableTexts.{lines_among}
 use Rattle.std.specs.Cmp.{IsTotalOrder}
 
 -- ---- each entry is found by its key
@@ -59,12 +61,6 @@ module _ (S : Store) (whole : IsWhole S) where
   text_within p text e = subst (λ o. IfSome o (IsNode p)) e (whole.nodes p)
 
 -- ---- the lines of some entries
-
-abbrev paths_of : List TableLine → List Parts
-paths_of ls = map (λ (l : TableLine). l.path) ls
-
-abbrev lines_among : List (Parts × Node) → List TableLine
-lines_among es = filter_map line_at es
 
 -- what holds of all paths holds of those of the lines
 all_kept : (P : Parts → Type 0) (es : List (Parts × Node)) → AllByRecursion P (keys_of es) → AllByRecursion P (paths_of (lines_among es))

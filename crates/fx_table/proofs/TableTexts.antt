@@ -1,5 +1,5 @@
 -- The text of a table, while a walk writes it.
-use Rattle.fx_table.proofs.Prelude.{◌≡◌, ℕ, Bool, true, false, ◌||◌, refl, sym, append_assoc, List, [], ◌∷◌, ◌++◌, Some, ◌∙◌, ap, filter_map, same_Some, Node, File, Dir, Link, Nodes, TableLine, line_at, lines_of, lines_text, has_flags, Entry, Level, TableText, line_text_at, flag_of_node, lines_so_far, flags_so_far, AddsLine, left_of, AreLevels, IsLeftBelow, TakesEntry}
+use Rattle.fx_table.proofs.Prelude.{◌≡◌, ℕ, Bool, true, false, ◌||◌, refl, sym, append_assoc, List, [], ◌∷◌, ◌++◌, Some, ◌∙◌, ap, filter_map, same_Some, Node, File, Dir, Link, Nodes, TableLine, line_at, lines_of, lines_text, has_flags, Entry, Level, TableText, line_text_at, is_executable, lines_so_far, flags_so_far, AddsLine, left_of, AreLevels, IsLeftBelow, TakesEntry}
 
 -- the lines of nodes
 abbrev pub lines_among : List (List (List ℕ) × Node) → List TableLine
@@ -25,7 +25,7 @@ first_line path (File bytes false) es = refl
 first_line path (Dir names) es = refl
 first_line path (Link text) es = refl
 
-first_flag : (path : List (List ℕ)) (node : Node) (es : List (List (List ℕ) × Node)) → has_flags (lines_among ((path, node) ∷ es)) ≡ (flag_of_node (Some node) || has_flags (lines_among es))
+first_flag : (path : List (List ℕ)) (node : Node) (es : List (List (List ℕ) × Node)) → has_flags (lines_among ((path, node) ∷ es)) ≡ (is_executable (Some node) || has_flags (lines_among es))
 first_flag path (File bytes true) es = refl
 first_flag path (File bytes false) es = refl
 first_flag path (Dir names) es = refl
@@ -50,8 +50,8 @@ listing_more nodes text new levels levels' e was are comes adds =
           ∙ (append_assoc so (line_text_at path (Some next.0)) (lines_text (lines_among left))
           ∙ (ap (λ t. so ++ t) (sym (first_line path next.0 left) ∙ ap (λ es. lines_text (lines_among es)) (sym next.2)) ∙ was.lines));
       flagged =
-          ap (λ b. b || has_flags (lines_among left)) (adds.flags ∙ ap (λ n. flags || flag_of_node (Some n)) same)
-          ∙ (or_assoc flags (flag_of_node (Some next.0)) (has_flags (lines_among left))
+          ap (λ b. b || has_flags (lines_among left)) (adds.flags ∙ ap (λ n. flags || is_executable (Some n)) same)
+          ∙ (or_assoc flags (is_executable (Some next.0)) (has_flags (lines_among left))
           ∙ (ap (λ b. flags || b) (sym (first_flag path next.0 left) ∙ ap (λ es. has_flags (lines_among es)) (sym next.2)) ∙ was.flagged));
     }
 

@@ -1,20 +1,15 @@
 -- Which files are executable by changes that stand for the lines of a table.
-use Rattle.std.specs.Prelude.{ℕ, Bool, true, false, List, Option, Some, None}
+use Rattle.std.specs.Prelude.{ℕ, Bool, List, Option, Some, None}
 use Rattle.std.specs.List.{filter}
 use Rattle.fx_store.specs.declared.node.Node.{Node}
 use Rattle.fx_store.specs.declared.node.Node.TheVariants.{File, Dir, Link}
 use Rattle.fx_store.specs.declared.changes.Change.{Change}
+use Rattle.fx_store.specs.Kinds.{is_link, is_executable}
 use Rattle.fx_table.specs.Lines.{standing_by}
-
-abbrev pub is_flagged : Option Node → Bool
-is_flagged None = false
-is_flagged (Some (File bytes exec)) = exec
-is_flagged (Some (Dir names)) = false
-is_flagged (Some (Link text)) = false
 
 -- the file at a path is executable by the changes
 abbrev pub flagged_at : List Change → List (List ℕ) → Bool
-flagged_at lines path = is_flagged (standing_by lines path)
+flagged_at lines path = is_executable (standing_by lines path)
 
 abbrev pub with_exec : Bool → Option Node → Option Node
 with_exec flag None = None
@@ -25,12 +20,6 @@ with_exec flag (Some (Link text)) = Some (Link text)
 -- a change of a file makes it executable where the lines say so
 abbrev pub flag_change : List Change → Change → Change
 flag_change lines c = record { path = c.path; node = with_exec (flagged_at lines c.path) c.node }
-
-abbrev pub is_link : Option Node → Bool
-is_link None = false
-is_link (Some (File bytes exec)) = false
-is_link (Some (Dir names)) = false
-is_link (Some (Link text)) = true
 
 -- the changes that make links
 abbrev pub links_alone : List Change → List Change

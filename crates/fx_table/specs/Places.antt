@@ -1,8 +1,6 @@
 -- Places below a folder, and what its table file is called.
-use Rattle.std.specs.Prelude.{◌≡◌, ℕ, cond, List, [], ◌∷◌, ◌++◌, codes, Option, Some, None}
-use Rattle.std.specs.Ordering.{eq_by_cmp}
+use Rattle.std.specs.Prelude.{◌≡◌, ℕ, List, [], ◌∷◌, ◌++◌, codes}
 use Rattle.std.specs.List.{flat_map}
-use Rattle.fx_outside.specs.Listing.{name_cmp}
 use Rattle.fx_outside.specs.Path.{Parts}
 
 -- the file in which a folder keeps its links
@@ -12,12 +10,6 @@ table_name = codes ".forest-links"
 -- where an entry stands, as refusals tell it
 abbrev pub place_of : Parts → List ℕ
 place_of names = flat_map (λ name. 47 ∷ name) names
-
--- what is left of the parts behind a folder's, if they begin with these
-abbrev pub rest_of : Parts → Parts → Option Parts
-rest_of [] q = Some q
-rest_of (a ∷ at) [] = None
-rest_of (a ∷ at) (b ∷ q) = cond (eq_by_cmp name_cmp a b) (rest_of at q) None
 
 -- a path has one name more than that of its directory
 abbrev pub StandsIn : Parts → Parts → Type 0

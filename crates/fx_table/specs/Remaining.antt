@@ -7,7 +7,8 @@ use Rattle.fx_store.specs.declared.node.Node.TheVariants.{File, Dir, Link}
 use Rattle.fx_store.specs.Whole.{Nodes}
 use Rattle.fx_table.specs.declared.descent.Entry.{Entry}
 use Rattle.fx_table.specs.declared.descent.Level.{Level}
-use Rattle.fx_table.specs.Places.{rest_of, StandsIn}
+use Rattle.fx_store.specs.Names.{rest_of}
+use Rattle.fx_table.specs.Places.{StandsIn}
 
 -- what stands at a path and below
 abbrev pub from_path : Nodes → List (List ℕ) → List (List (List ℕ) × Node)

@@ -11,9 +11,9 @@ use Rattle.fx_store.specs.declared.node.Node.TheVariants.{File, Dir, Link}
 use Rattle.fx_store.specs.declared.changes.Change.{Change}
 use Rattle.fx_store.specs.Names.{path_cmp, IsPath, IsLinkText, IsNameSet}
 use Rattle.fx_store.specs.Whole.{Store}
+use Rattle.fx_store.specs.Kinds.{is_dir}
 use Rattle.fx_table.specs.Listed.{Mapped, names_below, with_names}
 use Rattle.fx_table.specs.Mapped.{mapped_of}
-use Rattle.fx_table.specs.Table.{is_dir}
 
 -- within the limits, whichever bytes a file holds
 abbrev pub IsNodeBounded : Node → Type 0

@@ -13,6 +13,7 @@ use Rattle.fx_store.specs.Names.{path_cmp, path_text, IsPath, IsLinkText}
 use Rattle.fx_store.specs.Faults.{read_path, read_link}
 use Rattle.fx_store.specs.Resolve.{parent}
 use Rattle.fx_store.specs.Whole.{Store, Nodes}
+use Rattle.fx_store.specs.Kinds.{is_dir, is_file}
 use Rattle.fx_table.specs.TableSpelling.{spelling, unspelled}
 pub use Rattle.fx_table.specs.declared.line.Mark.{Mark}
 pub use Rattle.fx_table.specs.declared.line.Mark.TheVariants.{Target, Executable}
@@ -92,14 +93,6 @@ abbrev pub read_line : List ℕ → Option TableLine
 read_line line = read_parts (slice_split is_space line)
 
 -- ---- which lines a filestore can have
-
-abbrev pub is_dir : Option Node → Bool
-is_dir (Some (Dir names)) = true
-is_dir _ = false
-
-abbrev pub is_file : Option Node → Bool
-is_file (Some (File bytes exec)) = true
-is_file _ = false
 
 -- a link can be made at the path: its parent is a directory of the filestore, which has no links yet, and nothing stands
 -- there; a link that an earlier line made is no directory

@@ -2,6 +2,7 @@
 use Rattle.std.specs.Prelude.{◌≡◌, ◌||◌, ℕ, Bool, true, false, cond, List, [], ◌∷◌, ◌++◌, Option, Some, None}
 use Rattle.fx_store.specs.declared.node.Node.{Node}
 use Rattle.fx_store.specs.declared.node.Node.TheVariants.{File, Dir, Link}
+use Rattle.fx_store.specs.Kinds.{is_executable}
 use Rattle.fx_table.specs.declared.links.TableText.{TableText}
 use Rattle.fx_table.specs.Table.{TableLine, Target, Executable, line_of, version_line}
 
@@ -23,13 +24,6 @@ line_text_at path (Some (File bytes exec)) = flag_text path exec
 line_text_at path (Some (Dir names)) = []
 line_text_at path (Some (Link text)) = link_text path text
 
--- it says that a file is executable
-abbrev pub flag_of_node : Option Node → Bool
-flag_of_node None = false
-flag_of_node (Some (File bytes exec)) = exec
-flag_of_node (Some (Dir names)) = false
-flag_of_node (Some (Link text)) = false
-
 -- the lines that were added, and whether one of them says that a file is executable
 abbrev pub lines_so_far : TableText → List ℕ
 lines_so_far text = text.lines.items
@@ -39,7 +33,7 @@ flags_so_far text = text.flags
 
 pub record AddsLine (old : TableText) (path : List (List ℕ)) (node : Node) (new : TableText) : Type 0 where
   pub lines : lines_so_far new ≡ lines_so_far old ++ line_text_at path (Some node)
-  pub flags : flags_so_far new ≡ (flags_so_far old || flag_of_node (Some node))
+  pub flags : flags_so_far new ≡ (flags_so_far old || is_executable (Some node))
 
 abbrev pub whole_text : TableText → List ℕ
 whole_text text = cond text.flags version_line [] ++ text.lines.items

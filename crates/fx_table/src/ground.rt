@@ -3,8 +3,8 @@ ghost use Rattle.std.specs.Prelude.{◌≡◌, option_copied, unwrap_or, None};
 ghost use Rattle.std.specs.FinMap.{get};
 ghost use Rattle.fx_store.specs.Changes.{change_at};
 ghost use Rattle.fx_store.specs.Names.{path_cmp};
+ghost use Rattle.fx_store.specs.Kinds.{is_dir, is_file};
 ghost use Rattle.fx_table.specs.Lines.{standing_by};
-ghost use Rattle.fx_table.specs.Table.{is_dir, is_file};
 
 use crate::lines::Ground;
 use fx_base::NoMemory;

@@ -2,7 +2,8 @@
 ghost use Rattle.std.specs.Prelude.{◌≡◌, ◌≤◌, ◌==◌, ◌∷◌, [], ◌&&◌, cond, not, MatchOption, IfOk, IfErr};
 ghost use Rattle.std.specs.List.{slice_split};
 ghost use Rattle.fx_store.specs.Whole.{Store};
-ghost use Rattle.fx_table.specs.Table.{can_stand, is_file, over, has_flags, is_second, body_of, has_place, is_flag_mark, is_space, read_line, read_parts, Target};
+ghost use Rattle.fx_store.specs.Kinds.{is_file};
+ghost use Rattle.fx_table.specs.Table.{can_stand, over, has_flags, is_second, body_of, has_place, is_flag_mark, is_space, read_line, read_parts, Target};
 ghost use Rattle.fx_table.specs.Lines.{IsCut, DecidesFollow, AreLines, ReadsNext, StopsNext, ReadsBody, BodyCause, ReadsAll, LinesCause, TakesRoom, line_change, lines_in, mark_in, mark_node};
 ghost use Rattle.fx_table.specs.Places.{place_of, table_name};
 

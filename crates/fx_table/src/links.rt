@@ -4,8 +4,9 @@ ghost use Rattle.std.specs.FinMap.{get};
 ghost use Rattle.std.specs.List.{flat_map};
 ghost use Rattle.std.specs.Fmt.{digit_glyph};
 ghost use Rattle.fx_store.specs.Whole.{IsWhole};
+ghost use Rattle.fx_store.specs.Kinds.{is_executable};
 ghost use Rattle.fx_table.specs.Table.{table_text, lines_of, version_line};
-ghost use Rattle.fx_table.specs.Texts.{link_text, flag_text, line_text_at, flag_of_node, AddsLine, whole_text};
+ghost use Rattle.fx_table.specs.Texts.{link_text, flag_text, line_text_at, AddsLine, whole_text};
 ghost use Rattle.fx_table.specs.TableSpelling.{is_plain_byte, spelled, spelling};
 
 use crate::descent::{Descent, Entry};
@@ -85,7 +86,7 @@ fn add_entry(text: &mut Vec<u8>, path: &Path, node: &Node) -> Result<bool, NoMem
     requires { 0 < length path.now }
     ensures text { OnOk result
         (text.new.items ≡ text.old.items ++ line_text_at path.now (Some node.now)) }
-    ensures flag { IfOk result (λ flag. flag ≡ flag_of_node (Some node.now)) }
+    ensures flag { IfOk result (λ flag. flag ≡ is_executable (Some node.now)) }
 {
     match node {
         Node::Link(link) => {

@@ -1,15 +1,13 @@
 //! Each directory lists the names that stand directly in it.
-ghost use Rattle.std.specs.Prelude.{◌≡◌, ◌<◌, ◌+◌, [], true, map, drop, replicate, length, IfOk, OnOk, MatchOption, is_some, slice_get, get_or, Some};
+ghost use Rattle.std.specs.Prelude.{◌≡◌, ◌<◌, ◌+◌, [], true, map, drop, replicate, length, IfOk, OnOk, MatchOption, is_some, slice_get, Some};
 ghost use Rattle.std.specs.Map.{keys_of};
 ghost use Rattle.std.specs.List.Sorted.{IsStrictlySortedBy};
-ghost use Rattle.std.specs.Ordering.{eq_by_cmp};
 ghost use Rattle.fx_outside.specs.Path.{Parts, name_in};
-ghost use Rattle.fx_store.specs.Names.{name_cmp, path_cmp};
-ghost use Rattle.fx_table.specs.Places.{rest_of};
+ghost use Rattle.fx_store.specs.Names.{path_cmp};
+ghost use Rattle.fx_store.specs.Kinds.{is_dir};
 ghost use Rattle.fx_table.specs.Listed.{names_below, listed};
 ghost use Rattle.fx_table.specs.Lists.{items_of, IsFolderAt, HasNoFolder, IsAddedAt, HasChildAdded};
 ghost use Rattle.fx_table.specs.Shaped.{HaveNameSets, ListsAt, changes_of};
-ghost use Rattle.fx_table.specs.Table.{is_dir};
 ghost use Rattle.fx_table.specs.Mapped.{mapped_of};
 
 use fx_base::NoMemory;
@@ -166,35 +164,5 @@ fn add_name(
 fn is_child(dir: &Path, path: &Path) -> bool
     ensures { result ≡ is_some (name_in dir.now path.now) }
 {
-    path.len() == dir.len() + 1 && is_below(dir, path)
-}
-
-/// Whether a path is that of a directory or below it.
-fn is_below(dir: &Path, path: &Path) -> bool
-    ensures { result ≡ is_some (rest_of dir.now path.now) }
-{
-    if path.len() < dir.len() {
-        return false;
-    }
-    for k in 0..dir.len() {
-        if !is_same(dir, path, k) {
-            return false;
-        }
-    }
-    true
-}
-
-/// Whether two paths have the same name at an index.
-fn is_same(dir: &Path, path: &Path, k: u32) -> bool
-    requires dir { k < length dir.now }
-    requires path { k < length path.now }
-    ensures { result ≡ eq_by_cmp name_cmp (get_or dir.now k []) (get_or path.now k []) }
-{
-    let Some(name) = dir.name(k) else {
-        unreachable!()
-    };
-    let Some(other) = path.name(k) else {
-        unreachable!()
-    };
-    name == other
+    path.len() == dir.len() + 1 && path.starts_with(dir)
 }

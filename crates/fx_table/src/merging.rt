@@ -1,6 +1,7 @@
 //! The lines of a table set among files and directories.
 ghost use Rattle.std.specs.Prelude.{◌≡◌, ◌++◌, ◌∷◌, [], map, IfOk, OnOk};
-ghost use Rattle.fx_table.specs.Flags.{flagged_at, flag_change, is_link, links_alone};
+ghost use Rattle.fx_store.specs.Kinds.{is_link};
+ghost use Rattle.fx_table.specs.Flags.{flagged_at, flag_change, links_alone};
 ghost use Rattle.fx_table.specs.Listed.{with_links, with_lines};
 ghost use Rattle.fx_table.specs.Lines.{link_change, links_in, line_change, lines_in};
 ghost use Rattle.fx_table.specs.Mapped.{mapped_of};

@@ -1,5 +1,5 @@
 -- With fit inputs and no fault of host, sink or disk a command is done, or memory runs out.
-use Rattle.std.proofs.Common.{◌≡◌, ◌⊎◌, inl, inr, Option, Some, None, IfSome, refl}
+use Rattle.std.proofs.Common.{◌≡◌, inl, inr, Option, Some, None, IfSome, refl}
 use Rattle.fx_base.specs.Causes.{Rose}
 use Rattle.fx_outside.specs.Host.{HostView}
 use Rattle.fx_outside.specs.Sink.{SinkView}
@@ -12,7 +12,7 @@ use Rattle.fx_command.proofs.Told.{if_some_map, same, some_unit}
 use Rattle.fx_durable.specs.Disk.{DiskView}
 use Rattle.fx_durable.proofs.Choices.{unasked}
 use Rattle.fx_large_commands.specs.GenRows.{gen_making}
-use Rattle.fx_run_commands.proofs.Journals.Completing.{journal_completes, journal_no_memory}
+use Rattle.fx_run_commands.proofs.Journals.Completing.{journal_completes, journal_no_memory, Ends}
 use Rattle.fx_run_commands.proofs.Journals.Keeping.{unbegun_keeps}
 use Rattle.fx_large_commands.specs.LargeRows.{large_making}
 use Rattle.fx_command.specs.Table.{making_only}
@@ -27,9 +27,6 @@ use Rattle.fx_views_command.proofs.Completing.{views_completes}
 use Rattle.fx_views_command.proofs.Ending as viewing
 use Rattle.fx_top.specs.Rows.{AsksInside, Row, LeavesDisk, KeepsWrittenOrder, IsProper, Completes}
 use Rattle.fx_words.specs.Job.{Job, Run, Show, Gen, Large, Audit, Journal, Recover, Views}
-
-abbrev Ends : Status → Type 0
-Ends st = (st ≡ status.Done) ⊎ (st ≡ status.NoMemory)
 
 told : (j : Job) (t : Tree) (host host' : HostView) (sink sink' : SinkView) (disk disk' : DiskView) (st : Status) → host.told ≡ Some t → IsProper t disk j → (Rose host.faults host'.faults → ⊥) → (Rose sink.faults sink'.faults → ⊥) → (Rose disk.faults disk'.faults → ⊥) → Row j host host' sink sink' disk disk' st → Ends st
 told (Run j) t host host' sink sink' disk disk' st is proper none quiet calm row = run_completes j t host host' sink sink' st is proper none quiet row

@@ -78,11 +78,6 @@ module _ {R : Type 0} (m : Meaning R) where
     pub follows_then_refused : (x : X) → Follows m view own old mid rule (Ok x) → Follows {A = B} {X = Y} m then_view own old mid (rule >>= f) (Err stop.NoMemory)
     follows_then_refused x first = follows_then mid x (Err stop.NoMemory) first (follows_refused then_view own mid (f (view x)))
 
-  -- ---- the same rule, spelled in another way
-
-  pub follows_same : {A X : Type 0} (view : X → A) (own : Known) (old new : R × ℕ) (rule other : Ask A) (result : Result X Stop) → rule ≡ other → Follows m view own old new rule result → Follows m view own old new other result
-  follows_same {A} {X} view own old new rule other result e h = subst (λ (r : Ask A). Follows m view own old new r result) e h
-
   -- ---- one look
 
   module _ (own : Known) (old new : R) (path : Path) (same : m.complete new ≡ m.complete old) (vouched : (start : R) → m.vouches start old (m.reads old) → m.vouches start new (m.reads new)) where

@@ -6,7 +6,6 @@ pub mod Ordering
 pub mod Going
 pub mod Rulings
 pub mod Calls
-pub mod Courses
 pub mod Lists
 pub mod Components
 pub mod WalkRules

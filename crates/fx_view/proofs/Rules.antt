@@ -1,8 +1,8 @@
 -- Rules followed over what is known: one after another, over more reads, and against a filestore that agrees.
-use Rattle.std.proofs.Common.{◌≡◌, ℕ, cond, List, [], ◌∷◌, ◌++◌, Option, Some, None, is_some, IsSome, refl, ap, ◌∙◌, sym, subst}
+use Rattle.std.proofs.Common.{◌≡◌, ℕ, cond, List, [], ◌∷◌, ◌++◌, Option, Some, None, is_some, refl, ap, ◌∙◌, sym, subst}
 use Rattle.fx_store.specs.declared.node.Node.{Node}
 use Rattle.fx_store.specs.Whole.{Store}
-use Rattle.fx_store.specs.Rule.{Known, Ask, Answer, Look, Tick, answer, asked, ◌>>=◌, look_all, Found, Needs, seen, if_known, follow, AgreesWith, FollowedAt, AllKnown, changed, first_unknown}
+use Rattle.fx_store.specs.Rule.{Known, Ask, Answer, Look, Tick, answer, asked, ◌>>=◌, Found, Needs, seen, if_known, follow, AgreesWith, FollowedAt, AllKnown, changed, first_unknown}
 use Rattle.fx_store.proofs.Asks.{followed}
 use Rattle.fx_view.specs.Follows.{walked, walked_on}
 use Rattle.fx_view.proofs.Growing.{Grows}
@@ -177,14 +177,3 @@ needs_unknown {A} known own (Look p next) q e = step (known p) refl e (λ n. nee
         → ((n : Option Node) → follow known own (next (seen (own p) n)) ≡ Needs q → known q ≡ None) → known q ≡ None
     step None at e rest = let same : p ≡ q = cc in ap known (sym same) ∙ at
     step (Some n) at e rest = rest n e
-
--- ---- answers that were found
-
--- where looks at some paths are answered, each is known, and the answer is the one after them
-pub looked : {A : Type 0} (known own : Known) (ps : List Path) (x y : A) → follow known own (look_all ps (Answer x)) ≡ Found y → AllKnown known ps × (x ≡ y)
-looked known own [] x y e = (tt, cc)
-looked {A} known own (p ∷ ps) x y e = step (known p) refl e (λ h. looked known own ps x y h)
-  where
-    step : (k : Option (Option Node)) → known p ≡ k → if_known p k (λ n. follow known own (look_all ps (Answer x))) ≡ Found y → (follow known own (look_all ps (Answer x)) ≡ Found y → AllKnown known ps × (x ≡ y)) → (IsSome (known p) × AllKnown known ps) × (x ≡ y)
-    step None at e rest = cc
-    step (Some n) at e rest = let h = rest e in ((subst (λ o. IsSome o) (sym at) refl, h.0), h.1)

@@ -1,7 +1,6 @@
 -- What is left of the rule of resolution after each step of a walk.
-use Rattle.std.proofs.Common.{◌≡◌, ℕ, suc, ◌+◌, ◌<◌, Bool, true, false, cond, List, [], ◌∷◌, ◌++◌, map, length, get_or, take, Option, Some, None, Ok, Err, refl, sym, ap, ◌∙◌, arith, length-append, nat_lt}
+use Rattle.std.proofs.Common.{◌≡◌, ℕ, suc, ◌+◌, Bool, true, false, cond, List, [], ◌∷◌, ◌++◌, map, length, Option, Some, None, Ok, Err, refl, sym, ap, ◌∙◌, arith, length-append, nat_lt}
 use Rattle.std.proofs.lemmas.Bool.Decides.{nat_tests}
-use Rattle.std.proofs.lemmas.List.{take_more}
 use Rattle.fx_store.specs.declared.node.Node.{Node}
 use Rattle.fx_store.specs.declared.node.Node.TheVariants.{File, Dir, Link}
 use Rattle.fx_store.specs.declared.node.Landing.{Landing}
@@ -23,18 +22,6 @@ joined-full : (here : Path) (n : List ℕ) → joined here n ≡ cond (is_full h
 joined-full here n =
     let same : nat_lt 64 (length (here ++ n ∷ [])) ≡ nat_lt 63 (length here) = rw (length-append here (n ∷ [])) (grind (arith, nat_tests)) in
     ap (λ b. cond b (Err TooDeep) (Ok (here /ₚ n))) same
-
-pub joined_path : (here : Path) (n : List ℕ) (path : Path) → joined here n ≡ Ok path → path ≡ here /ₚ n
-joined_path here n path e = at (nat_lt 64 (length (here ++ n ∷ []))) e
-  where
-    at : (b : Bool) → cond b (Err TooDeep) (Ok (here /ₚ n)) ≡ Ok path → path ≡ here /ₚ n
-    at true e = cc
-    at false e = cc
-
--- one name more of a path
-pub joined_more : (path above more : Path) (i : ℕ) (n : List ℕ) → above ≡ take i path → i < length path → n ≡ get_or path i n → joined above n ≡ Ok more → more ≡ take (i + 1) path
-joined_more path above more i n is lt name e =
-    joined_path above n more e ∙ (ap (λ p. p ++ n ∷ []) is ∙ (ap (λ m. take i path ++ m ∷ []) name ∙ sym (take_more path i n lt)))
 
 walk_looks : (on : rule.Walk) (follow : Bool) (here : Path) (n : List ℕ) (rest : List rule.Component) (path : Path) → joined here n ≡ Ok path
     → walk on follow here (rule.Normal n ∷ rest) ≡ Look path (at_name follow here n rest (walk on follow (here /ₚ n) rest) on)

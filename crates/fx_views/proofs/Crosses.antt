@@ -7,26 +7,17 @@ use Rattle.std.proofs.Crossing.{crosses}
 use Rattle.atomic_table.proofs.shared.Seat.TheSendSync.{the_send as table_seat}
 use Rattle.atomic_table.proofs.shared.Shared.TheSendSync.{the_sync as table_shared}
 use Rattle.atomic_table.proofs.send_lease.SendLease.TheSendSync.{the_sync as table_lease}
-use Rattle.fx_expr.proofs.Crosses.{Values-send}
-use Rattle.fx_spec.proofs.Crosses.{Base-send, Base-sync, End-send}
+use Rattle.fx_spec.proofs.Crosses.{Base-send, Base-sync}
 use Rattle.fx_machine.proofs.Crosses.{Retry-send}
 use Rattle.fx_shared.proofs.Crosses.{Versioned-send}
 use Rattle.fx_shared.specs.contracts.versioned.Versioned as versioned
 use Rattle.fx_shared.specs.contracts.versioned.VersionedKept.TheImpl as kept
 use Rattle.fx_shared.specs.contracts.shares.Shares as shares
-use Rattle.fx_report.specs.contracts.printed.View as view
 use Rattle.fx_shared.specs.contracts.crew.Crew as crew
 use Rattle.fx_crew.specs.contracts.worker.Worked as worked
-use Rattle.fx_views.specs.contracts.viewing.Onlooker as onlooker
 
 pub Worked-send : IsSend (worked.the_field (versioned.the_row) kept.ghosts).row
 Worked-send = search (sendable, crosses, Versioned-send, Retry-send, table_seat) depth 40
-
-pub View-send : IsSend (view.the_field).row
-View-send = search (sendable, crosses, Values-send, End-send) depth 40
-
-pub Onlooker-send : IsSend (onlooker.the_field).row
-Onlooker-send = search (sendable, crosses, Versioned-send, View-send, table_seat) depth 40
 
 pub Snaps-sync : IsSync (shares.the_field (versioned.the_row) kept.ghosts).row
 Snaps-sync = search (sendable, crosses, Versioned-send, table_shared, table_lease) depth 40

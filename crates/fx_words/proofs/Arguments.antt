@@ -1,14 +1,10 @@
 -- The arguments of a command, read at their places.
-use Rattle.std.proofs.Common.{◌≡◌, ℕ, suc, ◌+◌, ◌-◌, ◌<◌, ◌≤◌, Bool, true, false, cond, List, [], ◌∷◌, length, drop, Option, Some, None, refl, sym, ap, ap₂, ◌∙◌, arith, length-drop}
+use Rattle.std.proofs.Common.{◌≡◌, ℕ, ◌+◌, ◌-◌, ◌<◌, ◌≤◌, Bool, true, false, cond, List, [], ◌∷◌, length, drop, Option, Some, None, refl, sym, ap, ap₂, ◌∙◌, arith, length-drop}
 use Rattle.std.specs.Prelude.{is_some, slice_get}
-use Rattle.std.specs.Option.{option_map, option_map_or, option_and_then, unwrap_or}
+use Rattle.std.specs.Option.{option_map, option_map_or, unwrap_or}
 use Rattle.std.proofs.lemmas.Bool.Decides.{nat_tests}
-use Rattle.std.proofs.lemmas.Bool.{and_parts}
-use Rattle.fx_words.specs.declared.form.CommandName.{CommandName}
-use Rattle.fx_words.specs.Forms.{command_job, has_form, least_of, most_of, takes, word_of}
-use Rattle.fx_words.proofs.Names.{job_named, named_so}
 use Rattle.fx_words.specs.declared.job.Inputs as code_inputs
-use Rattle.fx_words.specs.Job.{Inputs, Mode, RunJob, AuditJob, JournalJob, RecoverJob, ViewsJob, Plain, Scheduled, are_plain, audit_job, is_plain, is_within, job_of, journal_job, named_job, recover_job, run_job, schedule_of, scheduled_job, show_job, views_job}
+use Rattle.fx_words.specs.Job.{Inputs, Mode, RunJob, AuditJob, JournalJob, RecoverJob, ViewsJob, Plain, Scheduled, audit_job, is_within, journal_job, recover_job, run_job, schedule_of, scheduled_job, show_job, views_job}
 use Rattle.fx_words.specs.JobOf.{BeginAt, asked_inputs, has_schedule, scripts_in, shells_read}
 use Rattle.fx_words.proofs.Lists.{drop_there}
 
@@ -164,27 +160,3 @@ pair (w ∷ x ∷ y ∷ z ∷ rest) a b e f n = absurd (omega (arith, n))
 
 pub show_is : (ws : List Text) (spec folder : Text) → slice_get ws 1 ≡ Some spec → slice_get ws 2 ≡ Some folder → length ws ≡ 3 → show_job (drop 1 ws) ≡ Some (record { spec = spec; folder = folder; scripts = []; first = 3 })
 show_is ws spec folder e f n = ap show_job (pair ws spec folder e f n)
-
--- ---- by the form that was read
-
-taken : (name : CommandName) (args ws : List Text) → word_of name ∷ args ≡ ws → has_form ws ≡ true → takes name (length args) ≡ true
-taken name args ws is form =
-    sym (ap (λ o. option_map_or (λ c. takes c (length args)) o false) (named_so name)) ∙ ap has_form is ∙ form
-
-within : (least most n : ℕ) → is_within least most n ≡ true → (least ≤ n) × (n ≤ most)
-within least most n e = (grind (arith, nat_tests), grind (arith, nat_tests))
-
-pub long : (name : CommandName) (args ws : List Text) → word_of name ∷ args ≡ ws → has_form ws ≡ true → (least_of name < length ws) × (length ws ≤ most_of name + 1)
-long name args ws is form =
-    let n : suc (length args) ≡ length ws = ap length is in
-    let counts = within (least_of name) (most_of name) (length args) (taken name args ws is form) in
-    (omega (arith, n, counts.0), omega (arith, n, counts.1))
-
-pub job_is : (name : CommandName) (args ws : List Text) → word_of name ∷ args ≡ ws → are_plain ws ≡ true → job_of ws ≡ command_job name (drop 1 ws)
-job_is name args ws is plain =
-    let rest = (and_parts (is_plain (word_of name)) (are_plain args) (ap are_plain is ∙ plain)).1 in
-    sym (ap job_of is)
-    ∙ ap (λ b. cond b (named_job (word_of name) args) None) rest
-    ∙ job_named (word_of name) args
-    ∙ ap (λ o. option_and_then (λ c. command_job c args) o) (named_so name)
-    ∙ ap (λ xs. command_job name (drop 1 xs)) is

@@ -3,7 +3,7 @@
 use crate::{grammar, made, names, reports, values};
 use fx_base::NoMemory;
 use std::alloc::Global;
-use test_lines::{Case, integer, number, split_word, tell};
+use test_lines::{Case, integer, number, split_word, tell, verb_of};
 
 /// A call of a lower crate, with texts.
 #[derive(Clone, Copy)]
@@ -73,15 +73,6 @@ const VERBS: &[(&str, Verb)] = &[
     ("events", Verb::Report(reports::Form::Events)),
 ];
 
-fn verb_of(word: &str) -> Option<Verb> {
-    for (name, verb) in VERBS {
-        if *name == word {
-            return Some(*verb);
-        }
-    }
-    None
-}
-
 fn call_lower(alloc: Global, lower: Lower, rest: &str, out: &mut String) -> Result<(), NoMemory> {
     let (first, text) = split_word(rest);
     let (second, third) = split_word(text);
@@ -135,7 +126,7 @@ fn report(
 impl Case for reports::Parts {
     fn answer(&mut self, alloc: Global, line: &str, out: &mut String) -> Result<(), NoMemory> {
         let (word, rest) = split_word(line);
-        match verb_of(word) {
+        match verb_of(VERBS, word) {
             None => tell(out, "no such word"),
             Some(Verb::Note) => Ok(()),
             Some(Verb::Case) => {

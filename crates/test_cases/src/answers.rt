@@ -8,7 +8,9 @@ use crate::watches::tell_watch;
 use fx_base::NoMemory;
 use fx_outside::HostKind;
 use std::alloc::Global;
-use test_lines::{Call, Case, number, split_word, tell, tell_call, tell_tree, tell_writes};
+use test_lines::{
+    Call, Case, number, split_word, tell, tell_call, tell_tree, tell_writes, verb_of,
+};
 use test_stage::{
     Program, Stage, tell_changes, tell_disk, tell_faults, tell_message, tell_rooms, tell_schedules,
     tell_stops, tell_top,
@@ -102,15 +104,6 @@ const VERBS: &[(&str, Verb)] = &[
     ("message", Verb::Message),
 ];
 
-fn verb_of(word: &str) -> Option<Verb> {
-    for (name, verb) in VERBS {
-        if *name == word {
-            return Some(*verb);
-        }
-    }
-    None
-}
-
 fn put(alloc: Global, stage: &mut Stage, setting: Setting, rest: &str) -> Result<bool, NoMemory> {
     let (path, text) = split_word(rest);
     match setting {
@@ -200,7 +193,7 @@ pub struct Tried<'a, P> {
 impl<P: Program> Case for Tried<'_, P> {
     fn answer(&mut self, alloc: Global, line: &str, out: &mut String) -> Result<(), NoMemory> {
         let (word, rest) = split_word(line);
-        match verb_of(word) {
+        match verb_of(VERBS, word) {
             None => tell(out, "no such word"),
             Some(Verb::Note) => Ok(()),
             Some(Verb::Set(Setting::Case)) => {

@@ -10,6 +10,7 @@ mod pieces;
 mod places;
 mod sums;
 mod telling;
+mod verbs;
 mod words;
 
 pub use bytes::{add_bytes, tell, tell_bytes};
@@ -19,4 +20,5 @@ pub use hosts::{Call, tell_call, tell_on, tell_writes};
 pub use pieces::{integer, number, split_word};
 pub use places::{host_text, put};
 pub use telling::{Detail, tell_left, tell_tree};
+pub use verbs::verb_of;
 pub use words::words_of;

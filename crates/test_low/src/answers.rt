@@ -10,7 +10,7 @@ use fx_read_report::{Printed, ReportFault, read_report};
 use fx_report::printed_report;
 use std::alloc::Global;
 use std::fmt::Write;
-use test_lines::{Case, split_word, tell, tell_bytes, unescaped};
+use test_lines::{Case, split_word, tell, tell_bytes, unescaped, verb_of};
 
 /// The bytes of a report, as far as a case has set them up.
 #[derive(Drop)]
@@ -63,15 +63,6 @@ const VERBS: &[(&str, Verb)] = &[
     ("ample-words", Verb::Ample(Part::Words)),
     ("ample-known", Verb::Ample(Part::Known)),
 ];
-
-fn verb_of(word: &str) -> Option<Verb> {
-    for (name, verb) in VERBS {
-        if *name == word {
-            return Some(*verb);
-        }
-    }
-    None
-}
 
 fn tell_bad_line(out: &mut String, line: u64) -> Result<(), NoMemory> {
     writeln!(out, "> BadLine {line}")?;
@@ -193,7 +184,7 @@ impl Report {
 impl Case for Report {
     fn answer(&mut self, alloc: Global, line: &str, out: &mut String) -> Result<(), NoMemory> {
         let (word, rest) = split_word(line);
-        match verb_of(word) {
+        match verb_of(VERBS, word) {
             None => tell(out, "no such word"),
             Some(Verb::Note) => Ok(()),
             Some(Verb::Case) => {

@@ -11,7 +11,7 @@ use std::os::fd::AsRawFd;
 use std::os::unix::fs::symlink;
 use std::sync::Wait;
 use std::thread::Threads;
-use test_lines::{Call, number, split_word, tell};
+use test_lines::{Call, number, split_word, tell, verb_of};
 
 /// What a line sets up.
 #[derive(Clone, Copy)]
@@ -50,15 +50,6 @@ const VERBS: &[(&str, Verb)] = &[
     ("txforest", Verb::Run),
     ("tree", Verb::Tree),
 ];
-
-fn verb_of(word: &str) -> Option<Verb> {
-    for (name, verb) in VERBS {
-        if *name == word {
-            return Some(*verb);
-        }
-    }
-    None
-}
 
 /// What the lines before have set up for the next runs.
 #[derive(Drop)]
@@ -152,7 +143,7 @@ fn answer<T: Clone + Threads + Wait + Sync>(
     out: &mut String,
 ) -> Result<(), NoMemory> {
     let (word, rest) = split_word(line);
-    match verb_of(word) {
+    match verb_of(VERBS, word) {
         None => tell(out, "no such word"),
         Some(Verb::Note) => Ok(()),
         Some(Verb::Set(setting)) => set_up(rt, setting, rest, before, out),

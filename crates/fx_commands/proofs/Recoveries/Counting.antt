@@ -1,5 +1,5 @@
 -- Legal orders, one transaction more at a time.
-use Rattle.std.proofs.Common.{◌≡◌, ℕ, zero, suc, ◌+◌, ◌<◌, ◌≤◌, Bool, true, false, nat_eq, List, [], ◌∷◌, ◌++◌, length, take, drop, get_or, set, replicate, slice_get, Some, refl, sym, ap, subst, ◌∙◌, arith, length-append}
+use Rattle.std.proofs.Common.{◌≡◌, ℕ, suc, ◌+◌, ◌<◌, Bool, true, false, nat_eq, List, [], ◌∷◌, ◌++◌, length, take, drop, get_or, set, slice_get, Some, refl, sym, ap, subst, ◌∙◌, arith, length-append}
 use Rattle.std.specs.Prelude.{slice_index_or}
 use Rattle.std.proofs.lemmas.Bool.{eqb-true, eqb-false}
 use Rattle.std.proofs.lemmas.List.{length-map, map-append, get_or-set_same, get_or-set_other, length-set, take_at, take-map}
@@ -14,16 +14,6 @@ use Rattle.fx_machine.specs.Machine.{next_number}
 use Rattle.fx_audit.specs.Legal.{IsNextIn, IsFirstIllegal}
 use Rattle.fx_audit.proofs.Legal.{legal_turn}
 use Rattle.fx_commands.specs.Recoveries.Orders.{AreCounts}
-
--- ---- lists
-
-abbrev zeros : ℕ → List ℕ
-zeros n = replicate n 0
-
-none_there : (n k : ℕ) → get_or (zeros n) k 0 ≡ 0
-none_there zero k = refl
-none_there (suc n) zero = refl
-none_there (suc n) (suc k) = none_there n k
 
 -- ---- one transaction more
 
@@ -45,13 +35,6 @@ module _ (base : BaseTree) (o : List Turn) (shell : ℕ) (counts : List ℕ) (ar
           (get_or-set_same counts shell (next + 1) 0 within ∙ ap (λ n. n + 1) number ∙ sym (ap length (numbers_own o shell txn) ∙ length-append (numbers_of shell o) (txn ∷ [])))
       each k false e number =
           get_or-set_other counts shell k (next + 1) 0 (λ same. eqb-false shell k e (sym same)) ∙ are.each k ∙ sym (ap length (numbers_other o k shell txn e))
-
-  -- a transaction that is not its shell's next one, or is not in the script
-  pub not_next : (txn next : ℕ) → next ≡ slice_index_or counts shell 0 → (txn ≡ next → ⊥) → IsNextIn base o (shell, txn) → ⊥
-  not_next txn next is other in' = other (in'.next ∙ sym (is ∙ are.each shell))
-
-  pub not_planned : (txn next planned : ℕ) → txn ≡ next → planned ≡ count_of base.plan shell → planned ≤ next → IsNextIn base o (shell, txn) → ⊥
-  not_planned txn next planned same plan le is = let less = is.planned in omega (arith, same, plan, le, less)
 
 -- ---- over the pairs of an order
 

@@ -23,7 +23,7 @@ use Rattle.fx_durable.specs.Disk.{File, DiskView}
 use Rattle.fx_durable.proofs.Choices.{unasked}
 use Rattle.fx_run_commands.specs.Journals.Rows.{JournalEnd, JournalRow, CannotLeave, CannotReach, CannotStart, HasBroken, HoldsBytes}
 
-abbrev Ends : Status → Type 0
+abbrev pub Ends : Status → Type 0
 Ends st = (st ≡ status.Done) ⊎ (st ≡ status.NoMemory)
 
 -- an empty journal at its path holds nothing, and is at no other

@@ -1,6 +1,5 @@
 -- A run on threads is a whole run, and some trace. A run by a schedule is a whole run.
 use Rattle.std.proofs.Common.{◌≡◌, List, [], ℕ, map, refl, sym, subst}
-use Rattle.fx_spec.specs.Plans.{Turn}
 use Rattle.fx_spec.specs.Order.{BaseTree, IsComplete, RetriesOk}
 use Rattle.fx_board.specs.Board.{last_state}
 use Rattle.fx_board.specs.Log.{Log}

@@ -28,11 +28,12 @@ use Rattle.fx_grammar.specs.TokenLevels.{listed_levels, spec_token_levels, param
 use Rattle.fx_grammar.specs.Grammars.{descriptions}
 use Rattle.fx_source_parse.specs.declared.spec.start.Start.{Start}
 use Rattle.fx_source_parse.specs.declared.spec.start.Start.TheVariants as start
-use Rattle.fx_source_parse.specs.Descriptions.Lists.{Read, closed, ended_or, added_at, another_at, others_at, rest_at, listed_at}
+use Rattle.fx_source_parse.specs.Descriptions.Lists.{closed, ended_or, added_at, another_at, others_at, rest_at, listed_at}
 use Rattle.fx_source_parse.specs.Descriptions.Reader.{start_of, ReadSpec, focus_at, pair_at, comp_at, opt_at, pred_at, call_at, form_at, is_nothing, read_spec, param_at, def_at, read_def, begins_def, defs_from, defs_at, read_text}
 use Rattle.fx_source_parse.proofs.Descriptions.Machine.{Text, table, start_word, start_name, focus_tokens, pair_tokens, comp_tokens, behind_def, def_parts}
 use Rattle.fx_source_parse.proofs.Descriptions.Means.{text_fits}
 use Rattle.fx_source_parse.proofs.Descriptions.Link.{text_follows}
+use Rattle.fx_source_parse.specs.Reading.{Read}
 
 level_fits : (bound d : ℕ) (t : WrittenTree) → at_most bound (spec_token_levels d t) ≡ true → d ≤ bound
 level_fits bound d WrittenTree.file h = leb-true d bound (and_parts _ _ h).0

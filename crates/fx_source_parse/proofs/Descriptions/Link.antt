@@ -24,9 +24,10 @@ use Rattle.fx_parse.proofs.Within.{goes_within}
 use Rattle.fx_spec.specs.Written.{DefTree, TextTree}
 use Rattle.fx_source_parse.specs.declared.spec.start.Start.{Start}
 use Rattle.fx_source_parse.specs.declared.spec.start.Start.TheVariants as start
-use Rattle.fx_source_parse.specs.Descriptions.Lists.{Read, closed, ended_or, added_at, another_at, others_at, rest_at, listed_at}
+use Rattle.fx_source_parse.specs.Descriptions.Lists.{closed, ended_or, added_at, another_at, others_at, rest_at, listed_at}
 use Rattle.fx_source_parse.specs.Descriptions.Reader.{start_of, ReadSpec, focus_at, pair_at, comp_at, opt_at, pred_at, call_at, form_at, is_nothing, too_nested, read_spec, param_at, def_at, read_def, begins_def, defs_from, defs_at, read_text}
 use Rattle.fx_source_parse.proofs.Descriptions.Machine.{Kind, Arg, Param, Sym, Text, Def, Spec, First, More, Part, Shaped, Name, Fixed, start_stack, part_top, part_after, top_stack, top_level, first_stack, more_stack, def_stack, text_stack, table, holds, shape_holds, top_expands, top_levels, regroup}
+use Rattle.fx_source_parse.specs.Reading.{Read}
 
 abbrev pub go : List Sym → List Token → Result (List Token) Stuck
 go stack ts = scan table stack ts

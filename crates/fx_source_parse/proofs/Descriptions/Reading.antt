@@ -8,9 +8,10 @@ use Rattle.fx_parse.specs.Reader.{read_expr}
 use Rattle.fx_source_parse.specs.declared.spec.start.Start.{Start}
 use Rattle.fx_source_parse.specs.declared.spec.start.Start.TheVariants as start
 use Rattle.fx_spec.specs.Written.{DefTree}
-use Rattle.fx_source_parse.specs.Descriptions.Lists.{Read, closed, ended_or, added_at, another_at, others_at, rest_at, listed_at}
+use Rattle.fx_source_parse.specs.Descriptions.Lists.{closed, ended_or, added_at, another_at, others_at, rest_at, listed_at}
 use Rattle.fx_source_parse.specs.Descriptions.Reader.{start_of, form_at, is_nothing, too_nested, read_spec, read_def, begins_def, defs_from, defs_at}
 use Rattle.fx_source_parse.proofs.Descriptions.Again.{opens}
+use Rattle.fx_source_parse.specs.Reading.{Read}
 
 pub read_end : (left : ℕ) → read_spec left [] ≡ Err (Unexpected 0)
 unfolding read_spec

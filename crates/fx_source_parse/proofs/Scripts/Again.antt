@@ -28,10 +28,11 @@ use Rattle.fx_grammar.specs.Grammars.{transactions}
 use Rattle.fx_grammar.proofs.Deep.{Low, tail, front, rest}
 use Rattle.fx_source_parse.specs.declared.script.start.Start.{Start}
 use Rattle.fx_source_parse.specs.declared.script.start.Start.TheVariants as start
-use Rattle.fx_source_parse.specs.Scripts.Reader.{start_of, act_start, is_nothing, Read, bracketed_at, valued_at, typed_at, to_at, store_at, act_form_at, act_found, act_at, do_at, try_at, let_at, set_at, fetch_at, value_at, validate_at, print_at, added_at, closed, ended_or, items_at, many_at, braced_at, branch_at, each_at, form_at, read_command, read_txn}
+use Rattle.fx_source_parse.specs.Scripts.Reader.{start_of, act_start, is_nothing, bracketed_at, valued_at, typed_at, to_at, store_at, act_form_at, act_found, act_at, do_at, try_at, let_at, set_at, fetch_at, value_at, validate_at, print_at, added_at, closed, ended_or, items_at, many_at, braced_at, branch_at, each_at, form_at, read_command, read_txn}
 use Rattle.fx_source_parse.proofs.Scripts.Machine.{Txn, Command, table, start_word, act_word, act_of, act_rest, act_parts, act_starts, brace, end_brace, branch_tokens, each_tokens, command_runs}
 use Rattle.fx_source_parse.proofs.Scripts.Means.{txn_fits}
 use Rattle.fx_source_parse.proofs.Scripts.Link.{txn_follows}
+use Rattle.fx_source_parse.specs.Reading.{Read}
 
 -- the commands of a block
 abbrev pub list_of : Block → List CommandTree

@@ -27,8 +27,9 @@ use Rattle.fx_source_parse.specs.declared.script.start.ActStart.{ActStart}
 use Rattle.fx_source_parse.specs.declared.script.start.ActStart.TheVariants as act
 use Rattle.fx_source_parse.specs.declared.script.start.Start.{Start}
 use Rattle.fx_source_parse.specs.declared.script.start.Start.TheVariants as start
-use Rattle.fx_source_parse.specs.Scripts.Reader.{start_of, act_start, is_nothing, Read, bracketed_at, valued_at, typed_at, to_at, store_at, act_form_at, act_found, act_at, do_at, try_at, let_at, set_at, fetch_at, value_at, validate_at, print_at, added_at, closed, ended_or, items_at, many_at, braced_at, branch_at, each_at, form_at, too_nested, read_command, read_txn}
+use Rattle.fx_source_parse.specs.Scripts.Reader.{start_of, act_start, is_nothing, bracketed_at, valued_at, typed_at, to_at, store_at, act_form_at, act_found, act_at, do_at, try_at, let_at, set_at, fetch_at, value_at, validate_at, print_at, added_at, closed, ended_or, items_at, many_at, braced_at, branch_at, each_at, form_at, too_nested, read_command, read_txn}
 use Rattle.fx_source_parse.proofs.Scripts.Machine.{Sym, Txn, Command, Commands, Act, Part, Shaped, Name, Fixed, act_stack, found_stack, start_stack, items_stack, txn_stack, table, holds, shape_holds}
+use Rattle.fx_source_parse.specs.Reading.{Read}
 
 abbrev pub go : List Sym → List Token → Result (List Token) Stuck
 go stack ts = scan table stack ts

@@ -22,7 +22,7 @@ use Rattle.fx_parse.proofs.ShapeMachine as shape
 use Rattle.fx_parse.proofs.ShapeMachine.{Shape, shape_fits}
 use Rattle.fx_parse.proofs.Signs.{sign_is, names, name_is}
 use Rattle.fx_parse.proofs.Steps.{ran}
-use Rattle.fx_parse.proofs.Tests.{passed, passed_step}
+use Rattle.fx_parse.proofs.Tests.{passed_step}
 use Rattle.fx_parse.proofs.Within.{run_within, Over, part_step}
 use Rattle.fx_spec.specs.CommandTree.{ActTree, CommandTree, Block, block}
 use Rattle.fx_grammar.specs.Tokens.{act_tokens, command_tokens, block_tokens, txn_tokens, act_names, command_names, block_names, txn_names}

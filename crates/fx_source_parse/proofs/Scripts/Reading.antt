@@ -14,8 +14,9 @@ use Rattle.fx_parse.specs.ShapeReader.{read_shape}
 use Rattle.fx_spec.specs.CommandTree.{CommandTree}
 use Rattle.fx_source_parse.specs.declared.script.start.Start.{Start}
 use Rattle.fx_source_parse.specs.declared.script.start.Start.TheVariants as start
-use Rattle.fx_source_parse.specs.Scripts.Reader.{start_of, act_start, is_nothing, Read, act_found, act_at, added_at, closed, ended_or, items_at, many_at, form_at, too_nested, read_command, txn_added_at, txns_at, read_script}
+use Rattle.fx_source_parse.specs.Scripts.Reader.{start_of, act_start, is_nothing, act_found, act_at, added_at, closed, ended_or, items_at, many_at, form_at, too_nested, read_command, txn_added_at, txns_at, read_script}
 use Rattle.fx_source_parse.proofs.Scripts.Again.{opens}
+use Rattle.fx_source_parse.specs.Reading.{Read}
 
 -- no act begins here
 pub no_act : (expr : Read ExprTree) (x : Token) (rest all : List Token) → all ≡ x ∷ rest → act_start (start_of x) ≡ None → act_at expr all ≡ Err (Unexpected (length all))

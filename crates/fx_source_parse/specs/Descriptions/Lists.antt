@@ -1,14 +1,11 @@
 -- Reading parts with commas between them, up to the bracket that closes them.
-use Rattle.std.specs.Prelude.{ℕ, zero, suc, Bool, true, false, Option, Some, None, Result, Ok, List, [], ◌∷◌, ◌++◌, length}
+use Rattle.std.specs.Prelude.{ℕ, zero, suc, Option, Some, None, Result, Ok, List, [], ◌∷◌, ◌++◌, length}
 use Rattle.fx_lex.specs.declared.token.Token.{Token}
 use Rattle.fx_parse.specs.declared.sign.Sign.TheVariants as sign
 use Rattle.fx_parse.specs.Stuck.{Stuck, ◌>>=◌}
 use Rattle.fx_parse.specs.Reader.{unexpected, expect}
 use Rattle.fx_parse.specs.Signs as signs
-
--- a reader of something at the front
-abbrev pub Read : Type 0 → Type 0
-Read X = List Token → Result (X × List Token) Stuck
+use Rattle.fx_source_parse.specs.Reading.{Read}
 
 -- behind `)`
 abbrev pub closed : List Token → Option (List Token)

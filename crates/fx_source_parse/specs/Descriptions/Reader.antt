@@ -16,7 +16,8 @@ use Rattle.fx_parse.specs.Signs.{is_sign, name_at}
 use Rattle.fx_spec.specs.Written.{WrittenTree, DefTree, TextTree}
 use Rattle.fx_source_parse.specs.declared.spec.start.Start.{Start}
 use Rattle.fx_source_parse.specs.declared.spec.start.Start.TheVariants as start
-use Rattle.fx_source_parse.specs.Descriptions.Lists.{Read, added_at, listed_at}
+use Rattle.fx_source_parse.specs.Descriptions.Lists.{added_at, listed_at}
+use Rattle.fx_source_parse.specs.Reading.{Read}
 
 abbrev pub keyword_start : Keyword → Start
 keyword_start keyword.File = start.File

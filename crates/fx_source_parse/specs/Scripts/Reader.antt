@@ -20,6 +20,7 @@ use Rattle.fx_source_parse.specs.declared.script.start.ActStart.{ActStart}
 use Rattle.fx_source_parse.specs.declared.script.start.ActStart.TheVariants as act
 use Rattle.fx_source_parse.specs.declared.script.start.Start.{Start}
 use Rattle.fx_source_parse.specs.declared.script.start.Start.TheVariants as start
+use Rattle.fx_source_parse.specs.Reading.{Read}
 
 abbrev pub plain_tree : Plain → ActTree
 plain_tree plain.Into = ActTree.into
@@ -76,10 +77,6 @@ act_start _ = None
 abbrev pub is_nothing : Start → Bool
 is_nothing start.Nothing = true
 is_nothing _ = false
-
--- a reader of something at the front
-abbrev pub Read : Type 0 → Type 0
-Read X = List Token → Result (X × List Token) Stuck
 
 -- `( expr )`
 unfoldable pub bracketed_at : Read ExprTree → Read ExprTree

@@ -4,7 +4,8 @@ use Rattle.fx_store.specs.declared.node.Node.{Node}
 use Rattle.fx_store.specs.Rule.{Answer}
 use Rattle.fx_session.proofs.Halting.{no_memory_at_once}
 use Rattle.fx_spec.specs.Edit as edit
-use Rattle.fx_edit.specs.Kinds.{is_file, is_link, is_alike}
+use Rattle.fx_store.specs.Kinds.{is_file, is_link}
+use Rattle.fx_edit.specs.Kinds.{is_alike}
 use Rattle.fx_edit.proofs.Alike.{replaced-file, replaced-link}
 use Rattle.fx_edit.proofs.Edited.{edit_answered}
 use Rattle.fx_edit.proofs.storing.replaced.Goals as goal

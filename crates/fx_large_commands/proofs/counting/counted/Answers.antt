@@ -4,8 +4,9 @@ use Rattle.std.proofs.lemmas.Int.{ints}
 use mir.Syntax.{w64, w128}
 use mir.Val.{SFits, of_z, to_z}
 use Rattle.fx_large_commands.specs.Summary.{counted_at, counted_to}
-use Rattle.fx_large_commands.proofs.Sums.{counted_none, counted_more, count_named}
+use Rattle.fx_large_commands.proofs.Sums.{counted_none, counted_more}
 use Rattle.fx_large_commands.proofs.counting.counted.Goals as goal
+use Rattle.fx_gen.proofs.Placing.{count_named}
 
 pub loop-number-init : goal.loop-number-init
 loop-number-init c = (sym (counted_none c.args.store.now.nodes), omega (arith, ints), omega (arith, ints))

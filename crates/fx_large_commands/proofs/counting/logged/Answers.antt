@@ -1,8 +1,9 @@
 use Rattle.std.proofs.Common.{rules, ◌≡◌, ◌+◌, ◌<◌, ◌^◌, arith, sym, ap, ◌∙◌}
 use Rattle.std.specs.FinMap.{get}
 use Rattle.fx_large_commands.specs.Summary.{logged_at, logged_to}
-use Rattle.fx_large_commands.proofs.Sums.{logged_none, logged_more, log_named}
+use Rattle.fx_large_commands.proofs.Sums.{logged_none, logged_more}
 use Rattle.fx_large_commands.proofs.counting.logged.Goals as goal
+use Rattle.fx_gen.proofs.Placing.{log_named}
 
 pub loop-number-init : goal.loop-number-init
 loop-number-init c = (sym (logged_none c.args.store.now.nodes), omega arith)

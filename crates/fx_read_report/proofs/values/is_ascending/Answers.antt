@@ -1,4 +1,4 @@
-use Rattle.std.proofs.Common.{sym, ◌∙◌, arith}
+use Rattle.std.proofs.Common.{sym, ◌∙◌}
 use Rattle.fx_read_report.proofs.ValueLoops.{ascends_short}
 use Rattle.fx_read_report.proofs.values.is_ascending.Goals as goal
 

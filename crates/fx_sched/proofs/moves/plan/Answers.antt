@@ -1,6 +1,6 @@
 use Rattle.std.proofs.Common.{refl, ap, subst, ◌∙◌, take}
 use Rattle.fx_board.specs.Log.{Log}
-use Rattle.fx_sched.specs.Present.{IsNowIn, nothing_new}
+use Rattle.fx_board.specs.Present.{IsNowIn, nothing_new}
 use Rattle.fx_sched.proofs.Shells.{fits_as, planned_shell, planned_ready, unplanned_shell}
 use Rattle.fx_sched.proofs.moves.plan.Goals as goal
 
@@ -27,4 +27,4 @@ pub returns-in-Err-NoMemory-clause-shell : goal.returns-in-Err-NoMemory-clause-s
 returns-in-Err-NoMemory-clause-shell c =
     let l = c.new-present.ensures.reads ∙ (c.truncate.ensures ∙ ap (take c.args.shell.now.looked) c.replace-reads.ensures.value) in
     let stopped = rw c.in-Err-NoMemory.field-0-is at c.in-Err-NoMemory.ensures.stopped in
-    unplanned_shell c.args.board.now c.args.number c.args.shell.now c.requires.shell c.new-present.result.reads l c.run.new.reader.reads stopped.more stopped.kept
+    unplanned_shell c.args.board.now c.args.number c.args.shell.now c.requires.shell c.new-present.result.reads l c.into_reads.result stopped.more (c.into_reads.ensures ∙ stopped.kept)

@@ -1,6 +1,5 @@
 use Rattle.std.proofs.Common.{length, sym, ◌∙◌}
 use Rattle.fx_spec.specs.Bases.{base_tree}
-use Rattle.fx_words.specs.declared.job.RunJob as code
 use Rattle.fx_words.specs.Job.{shells_of}
 use Rattle.fx_words.specs.JobOf.{asked}
 use Rattle.fx_words.proofs.Below.{asked_below}

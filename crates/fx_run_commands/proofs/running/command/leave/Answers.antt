@@ -1,6 +1,5 @@
-use Rattle.std.proofs.Common.{ℕ, List, IfSome, subst}
+use Rattle.std.proofs.Common.{ℕ, List, subst}
 use Rattle.fx_store.specs.Whole.{Nodes}
-use Rattle.fx_outside.specs.Tree.{Tree}
 use Rattle.fx_folder.specs.Folder.{IsReady}
 use Rattle.fx_words.specs.JobOf.{asked}
 use Rattle.fx_command.specs.Saved.{SaveEnd}

@@ -1,5 +1,4 @@
 use Rattle.std.proofs.Common.{length, sym, ◌∙◌}
-use Rattle.fx_words.specs.declared.job.RunJob as code
 use Rattle.fx_words.proofs.Below.{asked_below}
 use Rattle.fx_run_commands.proofs.running.runs.trace_base.Goals as goal
 

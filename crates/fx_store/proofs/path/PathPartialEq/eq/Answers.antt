@@ -1,4 +1,4 @@
-use Rattle.std.proofs.Common.{rules, arith, ◌≡◌, ◌&&◌, length, sym, ap, ◌∙◌, length-append}
+use Rattle.std.proofs.Common.{rules, arith, ◌&&◌, length, sym, ap, ◌∙◌, length-append}
 use Rattle.std.specs.Prelude.{bytes_eq}
 use Rattle.std.specs.Cmp.Lexicographic.{pointwise}
 use Rattle.std.specs.Ordering.{eq_by_cmp}

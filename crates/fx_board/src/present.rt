@@ -1,26 +1,35 @@
 //! A reader of the filestore as it stands in a log.
 ghost use Rattle.std.specs.Prelude.{◌≡◌, true, refl};
-ghost use Rattle.fx_sched.specs.Present.{IsNowIn};
+ghost use Rattle.fx_board.specs.Present.{IsNowIn};
 
-use fx_board::Board;
+use crate::board::Board;
 use fx_store::{Node, Path};
 use fx_view::{Reader, Reads, Stop};
 use std::alloc::Global;
 
 /// A reader that answers from its reads, and reads every other path as it stands in the log. It vouches that the log is the
-/// one from the start, and that what was read since stands there.
+/// one from the start, and that what was read since stands there, and was looked at behind all entries.
 #[derive(Drop)]
-pub(crate) struct Present<'a> {
+pub struct Present<'a> {
     pub board: &'a Board,
     pub reads: Reads,
 }
 
 impl<'a> Present<'a> {
-    pub(crate) fn new(board: &'a Board, reads: Reads) -> Present<'a>
+    /// Some reads, of which the log may be asked for more.
+    pub fn new(board: &'a Board, reads: Reads) -> Present<'a>
         ensures board { result.board.now ≡ board.now }
         ensures reads { result.reads ≡ reads }
     {
         Present { board, reads }
+    }
+
+    /// The reads.
+    pub fn into_reads(self) -> Reads
+        ensures { result ≡ self.entry.reads }
+    {
+        let Present { board: _, reads } = self;
+        reads
     }
 }
 
@@ -49,7 +58,7 @@ impl Reader for Present<'_> {
         self.reads.take(alloc)
     }
 
-    ghost use Rattle.fx_sched.specs.Present.{nothing_new};
+    ghost use Rattle.fx_board.specs.Present.{nothing_new};
 
     ghost begins = { λ reader. (refl, nothing_new reader.board.now reader.reads) };
 }

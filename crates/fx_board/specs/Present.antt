@@ -1,5 +1,5 @@
 -- Reads that go on from some others by what stands in a log.
-use Rattle.std.specs.Prelude.{◌≡◌, ◌∷◌, ◌++◌, [], ⊤}
+use Rattle.std.specs.Prelude.{◌≡◌, ◌∷◌, ◌++◌, [], ⊤, length}
 use Rattle.std.proofs.Common.{sym}
 use Rattle.std.specs.FinMap.{get}
 use Rattle.std.proofs.lemmas.List.{append-nil}
@@ -7,10 +7,10 @@ use Rattle.fx_view.specs.ReadList.{ReadList}
 use Rattle.fx_board.specs.Board.{last_state}
 use Rattle.fx_board.specs.Log.{Log}
 
--- each of the reads is what stands at its path after all entries
+-- each of the reads is what stands at its path after all entries, and its position is their number
 abbrev pub AreCurrent : Log → ReadList → Type 0
 AreCurrent log [] = ⊤
-AreCurrent log (r ∷ reads) = (r.1.0 ≡ get (last_state log) r.0) × AreCurrent log reads
+AreCurrent log (r ∷ reads) = ((r.1.0 ≡ get (last_state log) r.0) × (r.1.1 ≡ length log.order)) × AreCurrent log reads
 
 -- the later reads are the earlier ones, and then some of what stands there now
 pub record IsNowIn (log : Log) (old new : ReadList) : Type 0 where
