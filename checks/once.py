@@ -27,16 +27,6 @@ SHORTEST = 60
 # Their definitions answer to names that the prover gives.
 ASKED = ("Answers", "Invariants", "Lib")
 LAWS = "proofs/laws/"
-# Lemmas that nobody cites any more. Each goes with the next change of its crate, since a change of
-# a low crate proves all above it again.
-LEFT = {
-    "fx_base.proofs.Searching": {"whole", "upper"},
-    "fx_text.proofs.Merging": {"none_left", "none_of"},
-    "fx_text.proofs.Order": {"ascending_rest"},
-    "fx_store.proofs.Crosses": {"Paths-sync"},
-    "fx_expr.proofs.Crosses": {"Values-sync"},
-    "fx_spec.proofs.Crosses": {"End-sync"},
-}
 _USE = re.compile(r"^(?:unfoldable )?(pub )?use (\S+?)(?:\.\{(.*)\}| as (\S+))?$")
 _GHOST = re.compile(r"ghost use (Rattle\.[^\s{;]+?)(?:\.\{([^}]*)\}| as \S+)?;")
 _USING = re.compile(r"(\w+)::proofs::(\w+(?:::\w+)*)::([^\s:,)\]]+)")
@@ -188,9 +178,8 @@ def uncited(pages: Pages) -> Iterator[str]:
         last = page.rel.split("/")[-1][: -len(".antt")]
         if not page.rel.startswith("proofs/") or page.rel.startswith(LAWS) or last in ASKED:
             continue
-        left = LEFT.get(page.module.removeprefix(_OWN), set())
         for item in page.items:
-            if not left & {*item.names} and not any(_is_cited(pages, page, item)):
+            if not any(_is_cited(pages, page, item)):
                 yield f"crates/{page.crate}/{page.rel}:{item.line}: nobody cites {item.names[0]}"
 
 

@@ -1,5 +1,5 @@
 -- A binary search of an ascending list that is read item by item.
-use Rattle.std.proofs.Common.{◌≡◌, ℕ, ◌+◌, ◌<◌, ◌≤◌, ◌⊎◌, true, false, List, length, get_or, refl, subst, ◌∙◌, inl, inr, arith}
+use Rattle.std.proofs.Common.{◌≡◌, ℕ, ◌+◌, ◌<◌, ◌≤◌, ◌⊎◌, true, false, List, length, get_or, refl, subst, ◌∙◌, arith}
 use Rattle.std.specs.declared.cmp.Ordering.{Ordering}
 use Rattle.std.specs.declared.cmp.Ordering.TheVariants.{Less, Equal, Greater}
 use Rattle.std.specs.List.{AllWithin, HoldsAt}
@@ -38,14 +38,8 @@ module _ {X : Type 0} (ord : X → Ordering) (xs : List X) where
   from_Greater : (m low : ℕ) → m ≤ low → HoldsAt (λ y. ord y ≡ Greater) xs m → IsNonDecreasingBy (λ y. ordering_index (ord y)) xs → AllWithin (λ y. ord y ≡ Greater) xs low (length xs)
   from_Greater m low h p up k d a b = top _ (subst (λ (o : Ordering). ordering_index o ≤ ordering_index (ord (get_or xs k d))) (p d) (up m k d (omega arith) b))
 
-  pub whole : Narrowed 0 (length xs)
-  whole = record { low = inl refl; high = λ up k d a b. absurd (omega arith) }
-
   pub lower : (base size mid left : ℕ) → mid ≤ base + left → Narrowed base size → HoldsAt (λ y. is_gt (ord y) ≡ true) xs mid → Narrowed base left
   lower base size mid left h n p = record { low = n.low; high = from_Greater mid (base + left) h (λ d. is_Greater _ (p d)) }
-
-  pub upper : (base size mid left : ℕ) → base + size ≤ mid + left → Narrowed base size → HoldsAt (λ y. is_gt (ord y) ≡ false) xs mid → Narrowed mid left
-  upper base size mid left h n p = record { low = inr p; high = λ up k d a b. n.high up k d (omega arith) b }
 
   pub after_Less : (base size : ℕ) → size ≤ 1 → base < length xs → Narrowed base size → HoldsAt (λ y. ord y ≡ Less) xs base
       → IsNonDecreasingBy (λ y. ordering_index (ord y)) xs → IsPartitionPoint (λ y. ord y ≡ Less) (λ y. ord y ≡ Greater) xs (base + 1)

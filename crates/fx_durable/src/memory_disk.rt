@@ -6,7 +6,7 @@ ghost use Rattle.fx_durable.specs.Replay.{no_file, replay, spent, IsIdle};
 ghost use Rattle.fx_durable.specs.Placed.{are_writes_placed};
 
 use crate::{Disk, DiskCall, DiskFailed, early_after};
-use fx_base::NoMemory;
+use fx_base::{NoMemory, add_within_capacity};
 use fx_outside::{Calls, HostText};
 use std::alloc::Global;
 
@@ -171,7 +171,7 @@ impl MemoryDisk {
         ensures choice { disk_choice self.new ≡ disk_choice self.old }
     {
         put(&mut self.bytes, from as usize, bytes);
-        append(&mut self.taken, bytes);
+        add_within_capacity(&mut self.taken, bytes);
         note(&mut self.made, DiskCall::Wrote(from, bytes.len() as u64));
     }
 
@@ -186,17 +186,6 @@ impl MemoryDisk {
         ensures choice { disk_choice self.new ≡ disk_choice self.old }
     {
         note(&mut self.made, DiskCall::Synced);
-    }
-}
-
-// Adds bytes for which the memory is there.
-fn append(bytes: &mut Vec<u8>, piece: &[u8])
-    requires { vec_len bytes.old + length piece.now ≤ vec_capacity bytes.old }
-    ensures added { bytes.new.items ≡ bytes.old.items ++ piece.now }
-    ensures reserved { vec_capacity bytes.old ≤ vec_capacity bytes.new }
-{
-    if bytes.extend_from_slice(piece).is_err() {
-        unreachable!();
     }
 }
 
@@ -222,7 +211,7 @@ fn put(bytes: &mut Vec<u8>, from: usize, piece: &[u8])
         bytes[from..from + piece.len()].copy_from_slice(piece);
     } else {
         bytes.truncate(from);
-        append(bytes, piece);
+        add_within_capacity(bytes, piece);
     }
 }
 

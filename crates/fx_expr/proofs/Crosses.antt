@@ -39,9 +39,6 @@ Value-sync = search (sendable, crosses, sync-Value, Text-sync, TextSet-sync) dep
 pub Values-send : IsSend (values.the_field).row
 Values-send = search (sendable, crosses, Value-send) depth 40
 
-pub Values-sync : IsSync (values.the_field).row
-Values-sync = search (sendable, crosses, Value-sync) depth 40
-
 pub Formula-send : IsSend (formula.the_field).row
 Formula-send = search (sendable, crosses, Expr-send, Value-send) depth 40
 

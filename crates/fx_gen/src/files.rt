@@ -9,8 +9,8 @@ ghost use Rattle.fx_store.specs.declared.node.Node.TheVariants as Node;
 ghost use Rattle.fx_gen.specs.Notes.{Placed, project, note_name, projects, note_names, part_names, linked, note, config, made, placed_note, placed_parts, note_changes_to, changes_to, project_changes, nodes};
 
 use crate::draws::Draws;
-use crate::lines::{add_bytes, two_digits};
-use fx_base::NoMemory;
+use crate::lines::two_digits;
+use fx_base::{NoMemory, add_bytes};
 use fx_store::{Bytes, Change, Changes, Filestore, LinkText, Name, Names, Node, Path, PathFault};
 use std::alloc::Global;
 

@@ -8,7 +8,7 @@ ghost use Rattle.fx_gen.specs.Notes.{two_digits};
 ghost use Rattle.fx_gen.specs.Scripts.{front, tag, count_line, log_line, txn_line, kind_of, generated_script, logging_of};
 
 use crate::draws::Draws;
-use fx_base::NoMemory;
+use fx_base::{NoMemory, add_bytes};
 use std::alloc::Global;
 
 /// How many scripts there are, and how many transactions each has.
@@ -25,14 +25,6 @@ pub(crate) fn two_digits(number: u32) -> [u8; 2]
     ensures { result ≡ two_digits number }
 {
     [b'0' + (number / 10) as u8, b'0' + (number % 10) as u8]
-}
-
-/// Adds the bytes at the end of the text.
-pub(crate) fn add_bytes(out: &mut Vec<u8>, bytes: &[u8]) -> Result<(), NoMemory>
-    ensures { OnOk result (out.new.items ≡ out.old.items ++ bytes.now) }
-{
-    out.extend_from_slice(bytes)?;
-    Ok(())
 }
 
 /// Adds a number in decimal digits.

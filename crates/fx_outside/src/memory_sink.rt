@@ -1,9 +1,9 @@
 //! A sink in memory, for tests.
-ghost use Rattle.std.specs.Prelude.{◌≡◌, ◌≤◌, ◌+◌, ◌++◌, [], ◌∷◌, length, vec_capacity, vec_len, IfOk, OnOk, OnErr, Some};
+ghost use Rattle.std.specs.Prelude.{◌≡◌, ◌≤◌, [], ◌∷◌, length, vec_capacity, IfOk, OnOk, OnErr, Some};
 
 use crate::calls::Calls;
 use crate::{Sink, SinkFailed};
-use fx_base::NoMemory;
+use fx_base::{NoMemory, add_within_capacity};
 use std::alloc::Global;
 
 /// Holds what is written to it, up to a number of bytes for which it takes the memory when it is made. Past that, and at
@@ -61,17 +61,6 @@ impl MemorySink {
     }
 }
 
-// Adds bytes for which the memory is there.
-fn append(bytes: &mut Vec<u8>, piece: &[u8])
-    requires { vec_len bytes.old + length piece.now ≤ vec_capacity bytes.old }
-    ensures added { bytes.new.items ≡ bytes.old.items ++ piece.now }
-    ensures reserved { vec_capacity bytes.old ≤ vec_capacity bytes.new }
-{
-    if bytes.extend_from_slice(piece).is_err() {
-        unreachable!();
-    }
-}
-
 impl Sink for MemorySink {
     ghost use Rattle.std.specs.Prelude.{◌≡◌, ◌<◌, length};
     ghost use Rattle.fx_outside.specs.MemorySink.{sink_room, sink_calls, sink_view, FillsRoom};
@@ -101,7 +90,7 @@ impl Sink for MemorySink {
             self.calls.fault();
             return Err(SinkFailed);
         }
-        append(&mut self.bytes, &bytes[..count]);
+        add_within_capacity(&mut self.bytes, &bytes[..count]);
         Ok(count)
     }
 }

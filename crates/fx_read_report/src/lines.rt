@@ -9,10 +9,10 @@ ghost use Rattle.fx_read_report.specs.Kinds.{kind_by, kind_of};
 use crate::numbers::after;
 use crate::parts::{end, field, last_field, quoted_path, small_field};
 use crate::values::{VALUE_LEVELS, read_value};
-use fx_base::NoMemory;
+use fx_base::{NoMemory, add_bytes};
 use fx_expr::Value;
 use fx_machine::Retry;
-use fx_report::{add_bytes, add_entry_words, add_field, add_print_words, add_retry_words};
+use fx_report::{add_entry_words, add_field, add_print_words, add_retry_words};
 use fx_spec::End;
 use std::alloc::Global;
 

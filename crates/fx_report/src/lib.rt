@@ -14,5 +14,4 @@ pub use lines::{
     printed_report, report, value_line,
 };
 pub use printed::{PrintedEntries, PrintedEntry, View, Viewed};
-pub use quotes::add_bytes;
 pub use views::views_text;

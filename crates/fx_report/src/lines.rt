@@ -9,9 +9,9 @@ ghost use Rattle.fx_report.specs.declared.pieces.TheConstants.{PIECE};
 
 use crate::pieces::{PIECE, write_bytes, write_field, write_path};
 use crate::printed::{PrintedEntries, PrintedEntry};
-use crate::quotes::{add_bytes, add_number, add_quoted_path};
+use crate::quotes::{add_number, add_quoted_path};
 use crate::values::add_value;
-use fx_base::NoMemory;
+use fx_base::{NoMemory, add_bytes};
 use fx_board::{Board, Entry, Event, Retries, Retry};
 use fx_expr::{ExprFault, Value, Values};
 use fx_spec::{End, Refusal};

@@ -4,17 +4,9 @@ ghost use Rattle.std.specs.List.{flat_map};
 ghost use Rattle.fx_store.specs.Names.{path_text};
 ghost use Rattle.fx_report.specs.Print.{hex_pair, quote, spelled};
 
-use fx_base::NoMemory;
+use fx_base::{NoMemory, add_bytes};
 use fx_store::{Name, Path};
 use itoa::Buffer;
-
-/// Adds the bytes at the end of the text.
-pub fn add_bytes(out: &mut Vec<u8>, bytes: &[u8]) -> Result<(), NoMemory>
-    ensures { OnOk result (out.new.items ≡ out.old.items ++ bytes.now) }
-{
-    out.extend_from_slice(bytes)?;
-    Ok(())
-}
 
 /// Adds a number in decimal digits, without leading zeros.
 pub fn add_number(out: &mut Vec<u8>, number: u64) -> Result<(), NoMemory>

@@ -4,8 +4,8 @@ ghost use Rattle.std.specs.List.{join_by, zip};
 ghost use Rattle.fx_expr.specs.Views.{tree_of};
 ghost use Rattle.fx_report.specs.Print.{comma, quote, row_text, truth_text, value_text};
 
-use crate::quotes::{add_bytes, add_quote};
-use fx_base::NoMemory;
+use crate::quotes::add_quote;
+use fx_base::{NoMemory, add_bytes};
 use fx_expr::{Text, TextSet, Value};
 
 /// Adds an integer in decimal digits, `-` before a negative one.

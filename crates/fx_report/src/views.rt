@@ -4,8 +4,7 @@ ghost use Rattle.fx_report.specs.Views as text;
 
 use crate::lines::{add_count_line, add_end, add_field, add_print_lines};
 use crate::printed::{View, Viewed};
-use crate::quotes::add_bytes;
-use fx_base::NoMemory;
+use fx_base::{NoMemory, add_bytes};
 use fx_spec::End;
 use fx_store::LongText;
 use std::alloc::Global;

@@ -1,7 +1,7 @@
 -- That the types of this crate cross threads: a value may move to another thread, and two threads may read one.
 use denote.Param.Send.{IsSend, IsSync, sendable}
 use Rattle.std.proofs.Crossing.{crosses}
-use Rattle.fx_store.proofs.Crosses.{Path-send, Path-sync, Filestore-send, Filestore-sync}
+use Rattle.fx_store.proofs.Crosses.{Path-send, Filestore-send, Filestore-sync}
 use Rattle.fx_expr.proofs.Crosses.{Expr-send, Expr-sync, Formula-send, Formula-sync, Word-send, Word-sync, Shape-send, Shape-sync}
 use Rattle.fx_spec.specs.contracts.spec.Spec as spec
 use Rattle.fx_spec.specs.contracts.exprs.Exprs as exprs
@@ -109,11 +109,5 @@ Base-sync = search (sendable, crosses, Checked-sync, Plan-sync, Filestore-sync) 
 pub Refusal-send : IsSend (refusal.the_field).row
 Refusal-send = search (sendable, crosses, Path-send) depth 40
 
-pub Refusal-sync : IsSync (refusal.the_field).row
-Refusal-sync = search (sendable, crosses, Path-sync) depth 40
-
 pub End-send : IsSend (end.the_field).row
 End-send = search (sendable, crosses, Refusal-send) depth 40
-
-pub End-sync : IsSync (end.the_field).row
-End-sync = search (sendable, crosses, Refusal-sync) depth 40

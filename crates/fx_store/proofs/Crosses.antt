@@ -27,9 +27,6 @@ Path-sync = search (sendable, crosses, Name-sync) depth 40
 pub Paths-send : IsSend (paths.the_field).row
 Paths-send = search (sendable, crosses, Path-send) depth 40
 
-pub Paths-sync : IsSync (paths.the_field).row
-Paths-sync = search (sendable, crosses, Path-sync) depth 40
-
 pub Names-send : IsSend (names.the_field).row
 Names-send = search (sendable, crosses, Name-send, Name-sync, TextSet-send) depth 40
 

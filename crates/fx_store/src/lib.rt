@@ -23,5 +23,6 @@ pub use link::LinkText;
 pub use name::{Name, PathFault};
 pub use names::{NameList, Names};
 pub use node::{Landing, Node};
+pub use parts::{after_slash, is_slash};
 pub use path::{Path, PathIter};
 pub use paths::Paths;

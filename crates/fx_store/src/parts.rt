@@ -7,7 +7,8 @@ use crate::name::{Name, is_name};
 use fx_base::NoMemory;
 use std::alloc::Global;
 
-fn is_slash(byte: &u8) -> bool
+/// Whether the byte is `/`.
+pub fn is_slash(byte: &u8) -> bool
     ensures { result ≡ is_slash byte.now }
 {
     *byte == b'/'
@@ -54,7 +55,7 @@ fn count_slashes(text: &[u8]) -> usize
 }
 
 /// The text without its leading `/`, if it has one.
-pub(crate) fn after_slash(text: &[u8]) -> &[u8]
+pub fn after_slash(text: &[u8]) -> &[u8]
     ensures { result.now ≡ after_slash text.now }
 {
     match text.split_first() {

@@ -11,7 +11,7 @@ ghost use Rattle.fx_table.specs.TableSpelling.{is_plain_byte, spelled, spelling}
 
 use crate::descent::{Descent, Entry};
 use crate::lines::VERSION_LINE;
-use fx_base::NoMemory;
+use fx_base::{NoMemory, add_bytes};
 use fx_store::{Filestore, LinkText, LongText, Name, Node, Path};
 use std::alloc::Global;
 
@@ -185,11 +185,4 @@ fn hex_digit(value: u8) -> u8
     } else {
         b'A' + (value - 10)
     }
-}
-
-fn add_bytes(text: &mut Vec<u8>, bytes: &[u8]) -> Result<(), NoMemory>
-    ensures { OnOk result (text.new.items ≡ text.old.items ++ bytes.now) }
-{
-    text.extend_from_slice(bytes)?;
-    Ok(())
 }

@@ -1,5 +1,5 @@
 -- What is left of two sets without their least text.
-use Rattle.std.proofs.Common.{◌≡◌, ℕ, Bool, true, false, ◌||◌, List, [], ◌∷◌, ◌++◌, length, nat_eq, refl, ap, sym, ◌∙◌, subst, arith}
+use Rattle.std.proofs.Common.{◌≡◌, ℕ, Bool, true, false, ◌||◌, List, [], ◌∷◌, ◌++◌, nat_eq, refl, ap, sym, ◌∙◌, subst, arith}
 use Rattle.std.specs.declared.cmp.Ordering.TheVariants.{Less, Equal, Greater}
 use Rattle.std.specs.Ordering.{nat_cmp, match_ordering}
 use Rattle.std.specs.Cmp.Lexicographic.{pointwise, slice_cmp}
@@ -134,10 +134,3 @@ module _ (a b : List (List ℕ)) (s t : List ℕ) (c d : List (List ℕ)) (up : 
   split_greater o =
       subst (λ (x : List (List ℕ)). IsLeastOf x b t x d) (sym e)
       (subst (λ (y : List (List ℕ)). IsLeastOf (s ∷ c) y t (s ∷ c) d) (sym f) (least_greater s t c d ups vps o))
-
-pub none_left : (a b : List (List ℕ)) → a ≡ [] → b ≡ [] → set_of (a ++ b) ≡ []
-none_left a b e f = ap (λ x. set_of (x ++ b)) e ∙ ap set_of f
-
-pub none_of : (xs : List (List ℕ)) → length xs ≡ 0 → xs ≡ []
-none_of [] e = refl
-none_of (x ∷ xs) e = absurd (omega arith)

@@ -7,7 +7,7 @@ ghost use Rattle.fx_store.specs.Resolve as rule;
 ghost use Rattle.fx_view.specs.Ways.{meant, way};
 
 use fx_base::NoMemory;
-use fx_store::{LinkText, Name, NameList, Path, PathFault, PathIter};
+use fx_store::{LinkText, Name, NameList, Path, PathFault, PathIter, after_slash, is_slash};
 use std::alloc::Global;
 use std::collections::VecDeque;
 use std::marker::Model;
@@ -150,22 +150,6 @@ fn read_name(alloc: Global, part: &[u8]) -> Result<Name, NoMemory>
         Ok(name) => Ok(name),
         Err(PathFault::NoMemory) => Err(NoMemory),
         Err(PathFault::BadName | PathFault::TooDeep) => unreachable!(),
-    }
-}
-
-fn is_slash(byte: &u8) -> bool
-    ensures { result ≡ is_slash byte.now }
-{
-    *byte == b'/'
-}
-
-/// The text without its leading `/`, if it has one.
-fn after_slash(text: &[u8]) -> &[u8]
-    ensures { result.now ≡ after_slash text.now }
-{
-    match text.split_first() {
-        Some((b'/', rest)) => rest,
-        _ => text,
     }
 }
 

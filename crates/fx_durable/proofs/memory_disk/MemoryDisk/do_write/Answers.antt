@@ -12,9 +12,9 @@ invariant_of-self c =
     let from = c.args.from in
     let file = replay (no_file self.path) self.made.items self.taken.items in
     let last = call.Wrote from (length piece) in
-    let more = more_is self.path self.made.items self.taken.items last piece c.note.new.made.items c.append.new.bytes.items self.spent self.placed c.note.ensures.added c.append.ensures.added (omega arith) (write_placed file from (length piece) piece c.requires.place) in
+    let more = more_is self.path self.made.items self.taken.items last piece c.note.new.made.items c.add_within_capacity.new.bytes.items self.spent self.placed c.note.ensures.added c.add_within_capacity.ensures.added (omega arith) (write_placed file from (length piece) piece c.requires.place) in
     let calls : length c.note.new.made.items ≡ length self.made.items + 1 = omega (arith, ap length c.note.ensures.added, length-append self.made.items (last ∷ [])) in
-    let size : length c.append.new.bytes.items ≡ length self.taken.items + length piece = ap length c.append.ensures.added ∙ length-append self.taken.items piece in
+    let size : length c.add_within_capacity.new.bytes.items ≡ length self.taken.items + length piece = ap length c.add_within_capacity.ensures.added ∙ length-append self.taken.items piece in
     let place : from ≤ length self.bytes.items = omega (arith, c.requires.place, ap length self.seen) in
     record {
       spent = more.spends;
@@ -24,7 +24,7 @@ invariant_of-self c =
       within = omega (arith, size, c.requires.room);
       recorded = omega (arith, calls, c.requires.place_in_record);
       bytes_reserved = omega (arith, self.bytes_reserved, c.put.ensures.reserved);
-      taken_reserved = omega (arith, self.taken_reserved, c.append.ensures.reserved);
+      taken_reserved = omega (arith, self.taken_reserved, c.add_within_capacity.ensures.reserved);
       record_reserved = omega (arith, self.record_reserved, c.note.ensures.reserved);
     }
 
@@ -35,5 +35,5 @@ returns-clause-file c =
     let from = c.args.from in
     let file = replay (no_file self.path) self.made.items self.taken.items in
     let last = call.Wrote from (length piece) in
-    let more = more_is self.path self.made.items self.taken.items last piece c.note.new.made.items c.append.new.bytes.items self.spent self.placed c.note.ensures.added c.append.ensures.added (omega arith) (write_placed file from (length piece) piece c.requires.place) in
+    let more = more_is self.path self.made.items self.taken.items last piece c.note.new.made.items c.add_within_capacity.new.bytes.items self.spent self.placed c.note.ensures.added c.add_within_capacity.ensures.added (omega arith) (write_placed file from (length piece) piece c.requires.place) in
     more.file ∙ last_write file from (length piece) piece refl
