@@ -367,16 +367,25 @@ def row(words: list[str]) -> None:
     print("  ".join(laid_out).rstrip(), flush=True)
 
 
-def print_table(lines: Iterable[Line]) -> None:
-    """Prints each line as soon as it is measured, and at the end how many reach their goals."""
-    row(head())
+Verdicts = list[bool | None]
+"""Whether lines reach their goals, in their order."""
+
+
+def print_lines(lines: Iterable[Line]) -> Verdicts:
+    """Prints each line as soon as it is measured, and tells which reach their goals."""
     last: Line | None = None
-    verdicts = []
+    verdicts: Verdicts = []
     for line in lines:
         is_first = last is None or (last.kind, last.folder) != (line.kind, line.folder)
         before = None if last is None or is_first or last.size == line.size else last
         row(cells(line, before, is_first))
         verdicts.append(verdict(line, before))
         last = line
+    return verdicts
+
+
+def tally(benches: Iterable[Verdicts]) -> str:
+    """How many lines of these benches reach their goals."""
+    verdicts = [verdict for bench in benches for verdict in bench]
     met, missed, open_ = (verdicts.count(verdict) for verdict in (True, False, None))
-    print(f"{met} met, {missed} not met, {open_} without a goal")
+    return f"{met} met, {missed} not met, {open_} without a goal"

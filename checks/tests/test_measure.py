@@ -2,10 +2,15 @@
 
 from __future__ import annotations
 
+import contextlib
+import importlib
+import io
 import math
 import sys
 import tempfile
 import unittest
+from collections.abc import Iterator
+from unittest import mock
 
 from tests import bench
 
@@ -104,3 +109,45 @@ class Runs(unittest.TestCase):
             words_of = lambda out: ["mkdir", out]
             measure.best(scratch, [words_of], 3, beside=lambda: turns.append(None))
         self.assertEqual(len(turns), 3)
+
+
+class Goes(unittest.TestCase):
+    """The table, and what is run once more."""
+
+    def table(self, *goes: list[float]) -> list[str]:
+        """What is printed of one bench whose lines take so long beside 1 s, in its next goes."""
+        left = list(goes)
+
+        def lines(sizes: list[int]) -> Iterator[measure.Line]:
+            for took in left.pop(0):
+                yield measure.Line("a kind", 1_000, took, 0, "a peer", 1.0, goals=(of_peer(2),))
+
+        all_py = importlib.import_module("all")
+        bench = mock.Mock(lines=lines)
+        told = io.StringIO()
+        with mock.patch.object(all_py.importlib, "import_module", return_value=bench):
+            with contextlib.redirect_stdout(told):
+                all_py.print_table([all_py.Bench("run", [])])
+        self.assertEqual(left, [], "goes that were not asked for")
+        return told.getvalue().splitlines()
+
+    def test_a_bench_that_meets_its_goals_is_run_once(self) -> None:
+        self.assertEqual(self.table([1.0, 2.0])[-1], "2 met, 0 not met, 0 without a goal")
+
+    def test_a_bench_that_misses_one_is_run_once_more(self) -> None:
+        told = self.table([3.0, 1.0], [2.0, 3.0])
+        self.assertIn("1 met, 1 not met, 0 without a goal", told)
+        self.assertIn("once more: run", told)
+        last = "in one of the two goes: 2 met, 0 not met, 0 without a goal"
+        self.assertEqual(told[-1], last)
+
+    def test_a_goal_that_is_missed_twice_is_not_met(self) -> None:
+        told = self.table([3.0, 1.0], [2.5, 1.0])
+        last = "in one of the two goes: 1 met, 1 not met, 0 without a goal"
+        self.assertEqual(told[-1], last)
+
+    def test_a_word_that_names_no_bench_ends_all_before_anything_is_measured(self) -> None:
+        with mock.patch.object(sys, "argv", ["all.py", "run", "runs"]):
+            with self.assertRaises(SystemExit) as ended:
+                importlib.import_module("all").main()
+        self.assertIn("runs is none of the benches", str(ended.exception))
